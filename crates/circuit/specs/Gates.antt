@@ -1,0 +1,11 @@
+-- What a gate's record says of the circuit.
+use mathlib.Core.List.{List, map}
+use Rattle.valuation.specs.Circuit.{Pair}
+use Rattle.circuit.specs.declared.Gate.{Gate}
+
+-- a gate's two literals
+abbrev pub pair : Gate → Pair
+pair g = record { left = g .left .code; right = g .right .code }
+
+abbrev pub pairs : List Gate → List Pair
+pairs gs = map pair gs
