@@ -1,0 +1,5 @@
+pub mod Totals
+pub mod Steps
+pub mod Goods
+pub mod Reading
+pub mod Judges

@@ -1,0 +1,4 @@
+pub mod Blocks
+pub mod Formula
+pub mod Rules
+pub mod Judging
