@@ -9,3 +9,7 @@ pair g = record { left = g .left .code; right = g .right .code }
 
 abbrev pub pairs : List Gate → List Pair
 pairs gs = map pair gs
+
+-- the gate of a free entry of a table
+abbrev pub empty : Gate
+empty = record { left = record { code = 0 }; right = record { code = 0 } }

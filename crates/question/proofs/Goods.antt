@@ -20,8 +20,8 @@ at-each-push : {X : Type 0} (P : ℕ → X → Type 0) (d : X) (xs : List X) (x 
     (i : ℕ) → i < length (xs ++ x ∷ []) → P i (getD (xs ++ x ∷ []) i d)
 at-each-push P d xs x before here i lt =
     elim (cases-lt i (length xs)) [
-      inl inside ↦ subst (P i) (sym (getD-append-left xs (x ∷ []) d i inside)) (before i inside)
-    | inr past ↦ let last : length xs ≡ i = omega (arith, length-push xs x) in subst (P i) (sym (getD-push xs x d i last)) (subst (λ n. P n x) last here)
+      | inl inside ↦ subst (P i) (sym (getD-append-left xs (x ∷ []) d i inside)) (before i inside)
+      | inr past ↦ let last : length xs ≡ i = omega (arith, length-push xs x) in subst (P i) (sym (getD-push xs x d i last)) (subst (λ n. P n x) last here)
     ]
 
 alternating-push : (bs : List Block) (b : Block) → Alternating bs → (0 < length bs → block-at bs (length bs - 1) .quantifier ≢ b .quantifier) → Alternating (bs ++ b ∷ [])
@@ -29,11 +29,11 @@ alternating-push bs b before here i lt =
     let long = length-push bs b in
     let low : block-at (bs ++ b ∷ []) i ≡ block-at bs i = getD-append-left bs (b ∷ []) _ i (omega arith) in
     elim (cases-lt (suc i) (length bs)) [
-      inl inside ↦ λ e. before i inside (ap (λ (x : Block). x .quantifier) (sym low) ∙ e ∙ ap (λ (x : Block). x .quantifier) (getD-append-left bs (b ∷ []) _ (suc i) inside))
-    | inr past ↦ λ e.
-      let last : length bs ≡ suc i = omega arith in
-      let place : length bs - 1 ≡ i = omega arith in
-      here (omega arith) (ap (λ n. block-at bs n .quantifier) place ∙ ap (λ (x : Block). x .quantifier) (sym low) ∙ e ∙ ap (λ (x : Block). x .quantifier) (getD-push bs b _ (suc i) last))
+      | inl inside ↦ λ e. before i inside (ap (λ (x : Block). x .quantifier) (sym low) ∙ e ∙ ap (λ (x : Block). x .quantifier) (getD-append-left bs (b ∷ []) _ (suc i) inside))
+      | inr past ↦ λ e.
+          let last : length bs ≡ suc i = omega arith in
+          let place : length bs - 1 ≡ i = omega arith in
+          here (omega arith) (ap (λ n. block-at bs n .quantifier) place ∙ ap (λ (x : Block). x .quantifier) (sym low) ∙ e ∙ ap (λ (x : Block). x .quantifier) (getD-push bs b _ (suc i) last))
     ]
 
 pub good-block : (bs : List Block) (b : Block) → Good bs [] → Admits bs b → Good (bs ++ b ∷ []) []
@@ -75,9 +75,9 @@ admits bs b cs gs g =
       few = omega arith;
       small = omega (arith, g .small, total-within bs b cs);
       differs = λ some e.
-        let before : block-at all (length bs - 1) ≡ block-at bs (length bs - 1) = getD-append-left bs (b ∷ cs) _ (length bs - 1) (omega arith) in
-        let place : suc (length bs - 1) ≡ length bs = omega arith in
-        g .alternating (length bs - 1) (omega arith) (ap (λ (x : Block). x .quantifier) before ∙ e ∙ ap (λ (x : Block). x .quantifier) (sym here ∙ ap (block-at all) (sym place)));
+          let before : block-at all (length bs - 1) ≡ block-at bs (length bs - 1) = getD-append-left bs (b ∷ cs) _ (length bs - 1) (omega arith) in
+          let place : suc (length bs - 1) ≡ length bs = omega arith in
+          g .alternating (length bs - 1) (omega arith) (ap (λ (x : Block). x .quantifier) before ∙ e ∙ ap (λ (x : Block). x .quantifier) (sym here ∙ ap (block-at all) (sym place)));
     }
 
 pub reads-next : (bs : List Block) (gs : List Pair) (p : Pair) (hs : List Pair) → Good bs (gs ++ p ∷ hs) → Reads bs (length gs) (p .left) (p .right)

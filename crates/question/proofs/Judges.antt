@@ -112,7 +112,7 @@ module _ (bytes : List ℕ) (bs : List Block) (n at : ℕ) (s : SoFar bytes bs n
       let step = block-step bs n (drop at bytes) b (read ∙ is) in
       let none : s .gates ≡ [] = nil-from-length (s .gates) (s .counted ∙ step .0) in
       let blocks : written bs (s .gates) ++ block-bytes b ≡ written (bs ++ b ∷ []) [] =
-        ap (λ gs. written bs gs ++ block-bytes b) none ∙ ap (λ ys. ys ++ block-bytes b) (append-nil (joined block-bytes bs)) ∙ joined-push block-bytes bs b ∙ sym (append-nil _) in
+      ap (λ gs. written bs gs ++ block-bytes b) none ∙ ap (λ ys. ys ++ block-bytes b) (append-nil (joined block-bytes bs)) ∙ joined-push block-bytes bs b ∙ sym (append-nil _) in
       record {
         gates = [];
         counted = sym (step .0);
@@ -130,7 +130,7 @@ module _ (bytes : List ℕ) (bs : List Block) (n at : ℕ) (s : SoFar bytes bs n
       let step = gate-step bs n (drop at bytes) left right (read ∙ is) in
       let p = pair-of left right in
       let more : written bs (s .gates) ++ gate-bytes p ≡ written bs (s .gates ++ p ∷ []) =
-        append-assoc (joined block-bytes bs) (joined gate-bytes (s .gates)) (gate-bytes p) ∙ ap (λ ys. joined block-bytes bs ++ ys) (joined-push gate-bytes (s .gates) p) in
+      append-assoc (joined block-bytes bs) (joined gate-bytes (s .gates)) (gate-bytes p) ∙ ap (λ ys. joined block-bytes bs ++ ys) (joined-push gate-bytes (s .gates) p) in
       record {
         gates = s .gates ++ p ∷ [];
         counted = length-push (s .gates) p ∙ ap (λ k. k + 1) (s .counted);
@@ -156,12 +156,14 @@ module _ (bytes : List ℕ) (bs : List Block) (n at : ℕ) (s : SoFar bytes bs n
   unfolding judged
   stops why is =
       let rest = drop at bytes in
-      let here : next bs (length (s .gates)) rest ≡ Err why = counted ∙ is in
-      (sym (s .same) ∙ ap (after (judged (s .left)) bs (s .gates) rest) here, record {
-        blocks = bs;
-        gates = s .gates;
-        rest = rest;
-        split = s .split;
-        good = s .good;
-        broken = unless-err (first (rules bs (length (s .gates)) rest)) (record-at (kind-of (word rest 2) (word rest 0)) rest) why here;
-      })
+      let here : next bs (length (s .gates)) rest ≡ Err why = counted ∙ is in (
+        sym (s .same) ∙ ap (after (judged (s .left)) bs (s .gates) rest) here,
+        record {
+          blocks = bs;
+          gates = s .gates;
+          rest = rest;
+          split = s .split;
+          good = s .good;
+          broken = unless-err (first (rules bs (length (s .gates)) rest)) (record-at (kind-of (word rest 2) (word rest 0)) rest) why here;
+        },
+      )

@@ -3,3 +3,6 @@ pub mod Steps
 pub mod Goods
 pub mod Reading
 pub mod Judges
+pub mod Filled
+pub mod Kept
+pub mod Laws

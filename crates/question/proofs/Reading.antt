@@ -28,7 +28,7 @@ use Rattle.question.specs.Judging.{after, judged, judgement, Breaks}
 use Rattle.question.proofs.Steps.{Admits, Reads, Ends, Placed, first-later, inside, no-repeat, reads}
 use Rattle.question.proofs.Goods.{admits, reads-next}
 
-recovered : (n : ℕ) → n % 256 + 256 * (n / 256) ≡ n
+pub recovered : (n : ℕ) → n % 256 + 256 * (n / 256) ≡ n
 recovered n = omega arith
 
 byte-small : (q : Quantifier) → byte-of q ≤ 1
@@ -58,10 +58,10 @@ reads-gate bs n p rest r =
     let low : ltb (word bytes 4) (limit bs n) ≡ true = ap (λ l. ltb l (limit bs n)) left ∙ lt-ltb _ _ (r .left) in
     let high : ltb (word bytes 6) (limit bs n) ≡ true = ap (λ l. ltb l (limit bs n)) right ∙ lt-ltb _ _ (r .right) in
     let obeys : first (content-rules kind.Gate bs n bytes) ≡ None =
-      first-later TooManyGates _ ((BadLiteral, not (ltb (word bytes 4) (limit bs n)) || not (ltb (word bytes 6) (limit bs n))) ∷ []) (le-ltb 1999 n (omega (arith, r .room)))
-      (first-later BadLiteral _ [] (or-from _ _ (not-from-true _ low) (not-from-true _ high)) refl) in
+    first-later TooManyGates _ ((BadLiteral, not (ltb (word bytes 4) (limit bs n)) || not (ltb (word bytes 6) (limit bs n))) ∷ []) (le-ltb 1999 n (omega (arith, r .room)))
+    (first-later BadLiteral _ [] (or-from _ _ (not-from-true _ low) (not-from-true _ high)) refl) in
     let is : record-of kind.Gate bytes ≡ gate (record { code = p .left }) (record { code = p .right }) =
-      ap (λ l. gate (record { code = l }) (record { code = word bytes 6 })) left ∙ ap (λ l. gate (record { code = p .left }) (record { code = l })) right in
+    ap (λ l. gate (record { code = l }) (record { code = word bytes 6 })) left ∙ ap (λ l. gate (record { code = p .left }) (record { code = l })) right in
     reads bs n bytes kind.Gate (record { named = refl; inOrder = ne-eqb (length bs) 0 (λ e. omega (arith, r .blocks)); whole = omega arith; obeys = obeys }) ∙ ap Ok is
 
 reads-output : (bs : List Block) (n l : ℕ) → 0 < length bs → l < limit bs n → next bs n (output-bytes l) ≡ Ok (output (record { code = l }))
@@ -109,13 +109,15 @@ reached bs gs rest g =
     let bytes = written bs gs ++ rest in
     let n = length bytes - length bs - length gs in
     let long : length bytes ≡ length (joined block-bytes bs) + length (joined gate-bytes gs) + length rest =
-      length-append (written bs gs) rest ∙ ap (λ k. k + length rest) (length-append (joined block-bytes bs) (joined gate-bytes gs)) in
+    length-append (written bs gs) rest ∙ ap (λ k. k + length rest) (length-append (joined block-bytes bs) (joined gate-bytes gs)) in
     let fuel : suc (length bytes) ≡ suc n + length gs + length bs =
-      omega (arith, few block-bytes bs (λ b. omega arith), few gate-bytes gs (λ p. omega arith)) in
+    omega (arith, few block-bytes bs (λ b. omega arith), few gate-bytes gs (λ p. omega arith)) in
     let front : bytes ≡ joined block-bytes bs ++ (joined gate-bytes gs ++ rest) = append-assoc (joined block-bytes bs) (joined gate-bytes gs) rest in
-    let blocks : Good bs [] = record { few = g .few; sized = g .sized; small = g .small; alternating = g .alternating; fewGates = omega arith; ascending = λ k lt. absurd (let no : ⊥ = omega arith in no); blocksFirst = λ some. absurd (let no : ⊥ = omega arith in no) } in
-    (n, ap (λ m. judged m [] [] bytes) fuel ∙ ap (judged (suc n + length gs + length bs) [] []) front
-    ∙ read-blocks (suc n + length gs) [] bs (joined gate-bytes gs ++ rest) blocks ∙ read-gates (suc n) bs [] gs rest g)
+    let blocks : Good bs [] = record { few = g .few; sized = g .sized; small = g .small; alternating = g .alternating; fewGates = omega arith; ascending = λ k lt. absurd (let no : ⊥ = omega arith in no); blocksFirst = λ some. absurd (let no : ⊥ = omega arith in no) } in (
+      n,
+      ap (λ m. judged m [] [] bytes) fuel ∙ ap (judged (suc n + length gs + length bs) [] []) front
+          ∙ read-blocks (suc n + length gs) [] bs (joined gate-bytes gs ++ rest) blocks ∙ read-gates (suc n) bs [] gs rest g,
+    )
 
 -- what encodes a well-formed formula is accepted
 pub accepts : (f : Formula) (bytes : List ℕ) → WellFormed f → Encodes f bytes → judgement bytes ≡ Ok f

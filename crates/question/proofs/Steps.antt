@@ -91,10 +91,10 @@ module _ (bs : List Block) (n : ℕ) (rest : List ℕ) where
   reads k p =
       let named = kind-of (word rest 2) (word rest 0) in
       let obeyed : first (kind-rules (Some k) bs n rest) ≡ None =
-        first-later Misplaced (misplaced k bs n) ((Incomplete, ltb (length rest) (4 + body k)) ∷ content-rules k bs n rest) (p .inOrder)
-        (first-later Incomplete (ltb (length rest) (4 + body k)) (content-rules k bs n rest) (le-ltb _ _ (p .whole)) (p .obeys)) in
+      first-later Misplaced (misplaced k bs n) ((Incomplete, ltb (length rest) (4 + body k)) ∷ content-rules k bs n rest) (p .inOrder)
+      (first-later Incomplete (ltb (length rest) (4 + body k)) (content-rules k bs n rest) (le-ltb _ _ (p .whole)) (p .obeys)) in
       let all : first (rules bs n rest) ≡ None =
-        first-later Incomplete (ltb (length rest) 4) (kind-rules named bs n rest) (le-ltb (length rest) 4 (omega (arith, p .whole))) (ap (λ o. first (kind-rules o bs n rest)) (p .named) ∙ obeyed) in
+      first-later Incomplete (ltb (length rest) 4) (kind-rules named bs n rest) (le-ltb (length rest) 4 (omega (arith, p .whole))) (ap (λ o. first (kind-rules o bs n rest)) (p .named) ∙ obeyed) in
       ap (λ o. unless o (record-at named rest)) all ∙ ap (λ o. unless None (record-at o rest)) (p .named)
 
 outside-false : (bs : List Block) (byte count : ℕ) → outside bs byte count ≡ false →
@@ -142,14 +142,16 @@ module _ (bs : List Block) (n : ℕ) (rest : List ℕ) where
       let r = first-none SameQuantifier (repeats bs (quantifier-of byte)) [] (o .1) in
       let i = outside-false bs byte (word rest 5) (o .0) in
       let sizes : b .size ≡ word rest 5 = ap (λ (x : Block). x .size) is in
-      let quantifiers : quantifier-of byte ≡ b .quantifier = sym (ap (λ (x : Block). x .quantifier) is) in
-      (omega (arith, ltb-false 0 n (p .inOrder)), record {
-        room = i .4;
-        some = omega arith;
-        few = omega arith;
-        small = omega arith;
-        differs = λ some. subst (λ q. block-at bs (length bs - 1) .quantifier ≢ q) quantifiers (repeats-false bs (quantifier-of byte) (r .0) some);
-      })
+      let quantifiers : quantifier-of byte ≡ b .quantifier = sym (ap (λ (x : Block). x .quantifier) is) in (
+        omega (arith, ltb-false 0 n (p .inOrder)),
+        record {
+          room = i .4;
+          some = omega arith;
+          few = omega arith;
+          small = omega arith;
+          differs = λ some. subst (λ q. block-at bs (length bs - 1) .quantifier ≢ q) quantifiers (repeats-false bs (quantifier-of byte) (r .0) some);
+        },
+      )
   block-from b kind.Gate p e = let z : _≡_ {A = ℕ} 0 1 = cc in absurd (let no : ⊥ = omega arith in no)
   block-from b kind.Output p e = let z : _≡_ {A = ℕ} 0 1 = cc in absurd (let no : ⊥ = omega arith in no)
 

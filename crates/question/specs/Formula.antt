@@ -2,7 +2,7 @@
 use mathlib.Core.Path.{_≡_}
 use mathlib.Core.List.{List, [], _∷_, _++_}
 use Prim.Native.Nat.{ℕ, _+_, _*_, _/_, _%_, _≤_, _<_}
-use lib.ListN.{length}
+use lib.ListN.{length, take}
 use Rattle.std.specs.Joined.{joined}
 use Rattle.valuation.specs.Circuit.{Pair, Ascending}
 use Rattle.question.specs.declared.prefix.Quantifier.{Quantifier}
@@ -15,6 +15,10 @@ pub record Formula : Type 0 where
   pub blocks : List Block
   pub gates : List Pair
   pub output : ℕ
+
+-- with the first n of a table's gates
+abbrev pub formula-of : List Block → List Pair → ℕ → ℕ → Formula
+formula-of bs table n output = record { blocks = bs; gates = take n table; output = output }
 
 -- blocks and gates that a well-formed formula may begin with
 pub record Good (bs : List Block) (gs : List Pair) : Type 0 where

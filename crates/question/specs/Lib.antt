@@ -2,3 +2,5 @@ pub mod Blocks
 pub mod Formula
 pub mod Rules
 pub mod Judging
+pub mod Questions
+pub mod Loading

@@ -13,9 +13,6 @@ use super::prefix::Block;
 use super::prefix::Prefix;
 use super::prefix::Quantifier;
 use super::prefix::QuantifierPartialEq;
-
-
-
 use circuit::Literal;
 
 // Why a load is refused.
@@ -74,7 +71,7 @@ pub enum Record {
 }
 
 // The number of two bytes, the low one first.
-fn word(bytes: &[u8], at: usize) -> u16
+pub(super) fn word(bytes: &[u8], at: usize) -> u16
     requires { ⌜ at + 1 < length (now bytes) ⌝ }
     ensures value { λ r. ⌜ r ≡ word (now (bytes .entry)) at ⌝ }
     ensures low { λ _. ⌜ getD (now (bytes .entry)) at 0 < 256 ⌝ }
