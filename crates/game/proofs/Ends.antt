@@ -9,7 +9,7 @@ use lib.ListN.{length, take, drop, take-append-drop}
 use Rattle.std.proofs.shelf.Tests.{cases-bool}
 use Rattle.game.specs.Prefix.{Formula, wants, blocks, owner, size, upto, positions}
 use Rattle.game.specs.Game.{someOf}
-use Rattle.game.specs.Run.{Tests, Phase, playing, lost, over, Rule, Starts, Stuck, Settles, Reaches, start, move, loss, settle, verdict, State, late}
+use Rattle.game.specs.Run.{Tests, Phase, playing, lost, over, Rule, Starts, Stuck, Settles, Reaches, start, move, loss, settle, verdict, State, stateOf, late}
 use Rattle.game.specs.Claims.{Moves, Possible, Never-stuck, Always-settles, Verdicts-exist}
 use Rattle.game.proofs.Settings.{and-right, some-miss, some-none, firstOf, first-long, first-passes}
 use Rattle.game.proofs.Runs.{good}
@@ -41,9 +41,9 @@ and-rest true b e h = h
 and-rest false b e h = absurd (false≢true e)
 
 module _ (F : Formula) where
-  turn : (Pick : Rule) → Possible F Pick → (d : ℕ) (p : List Bool) (A : Tests) → Moves F Pick d p A ⊎ Stuck F d p A
-  turn Pick possible d p A = elim (cases-bool (someOf (size F d) test)) [
-    | inl h ↦ inl (possible d p A (firstOf (size F d) test) (first-long (size F d) test) (first-passes (size F d) test h))
+  turn : (Pick : Rule) → Possible F Pick → (d : ℕ) (p : List Bool) (A : Tests) → length p ≡ upto F d → Moves F Pick d p A ⊎ Stuck F d p A
+  turn Pick possible d p A long = elim (cases-bool (someOf (size F d) test)) [
+    | inl h ↦ inl (possible d p (firstOf (size F d) test) A long (first-long (size F d) test) (first-passes (size F d) test h))
     | inr h ↦ inr (λ s l. some-none test s (rw l h))
   ]
     where
@@ -98,23 +98,22 @@ module _ (F : Formula) where
     after-loss : (d n k : ℕ) (p : List Bool) (A : Tests) → Reaches F Pick n k lost d p A →
         ((e j : ℕ) (q : List Bool) (B : Tests) → Reaches F Pick n j playing e q B → Verdict) → Verdict
     unfolding Verdict
-    after-loss zero n k p A r on = (record { turns = n; settlements = k; phase = over _; depth = 0; play = p; tests = A; reached = verdict r (omega arith) }, _, refl)
-    after-loss (suc zero) n k p A r on = (record { turns = n; settlements = k; phase = over _; depth = 1; play = p; tests = A; reached = verdict r (omega arith) }, _, refl)
+    after-loss zero n k p A r on = (stateOf (verdict r (omega arith)), _, refl)
+    after-loss (suc zero) n k p A r on = (stateOf (verdict r (omega arith)), _, refl)
     after-loss (suc (suc d)) n k p A r on =
         let x = settling d p A (good F Pick some r .adds) in
         on d (suc k) (take (upto F d) p) (x .0) (settle r (x .1))
 
     goes-on : (fuel n k d : ℕ) (p : List Bool) (A : Tests) → Reaches F Pick n k playing d p A → 3 * positions F + 2 ≤ n + fuel → Verdict
-    goes-on zero n k d p A r h =
-        absurd (omega (arith, turns-left F some Pick (record { turns = n; settlements = k; phase = playing; depth = d; play = p; tests = A; reached = r }) refl))
+    goes-on zero n k d p A r h = absurd (omega (arith, turns-left F some Pick (stateOf r) refl))
     goes-on (suc fuel) n k d p A r h =
-        elim (turn Pick possible d p A) [
+        elim (turn Pick possible d p A (good F Pick some r .long)) [
           | inl m ↦ goes-on fuel (suc n) k (suc d) (p ++ m .setting) A (move r (m .setting) (m .fits) (m .passes) (m .picked)) (omega arith)
           | inr st ↦ after-loss d (suc n) k p A (loss r st) (λ e j q B t. goes-on fuel (suc n) j e q B t (omega arith))
         ]
 
 pub never-stuck : Never-stuck
-never-stuck F Pick possible s e = turn F Pick possible (s .depth) (s .play) (s .tests)
+never-stuck F some Pick possible s e = turn F Pick possible (s .depth) (s .play) (s .tests) (good F Pick some (s .reached) .long)
 
 pub always-settles : Always-settles
 always-settles F some Pick s d e deep =

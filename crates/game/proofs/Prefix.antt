@@ -6,8 +6,8 @@ use Prim.Native.Nat.{ℕ, zero, suc, pred, _+_, _-_, _≤_, _<_}
 use native.Mathlib.Omega.{arith}
 use native.Mathlib.Decide.{decLe}
 use lib.ListN.{length, take, drop, length-append, length-drop}
-use lib.Seq.{take-append-le, drop-append-le, take-at, drop-at, take-all}
-use Rattle.game.specs.Prefix.{Formula, blocks, owner, head0, tail, rest, size, upto, part}
+use lib.Seq.{take-append-le, drop-append-le, drop-at, take-all, length-take-le}
+use Rattle.game.specs.Prefix.{Formula, blocks, owner, head0, tail, rest, size, upto, part, Last-level}
 use Rattle.game.specs.Game.{value, valueAt}
 use Rattle.game.proofs.Settings.{some-hit, every-hit, some-miss, every-miss}
 
@@ -64,6 +64,11 @@ module _ (F : Formula) where
   pub front-stays : (j d : ℕ) (p s : List Bool) → j ≤ d → length p ≡ upto F d → take (upto F j) (p ++ s) ≡ take (upto F j) p
   front-stays j d p s l e = take-append-le (upto F j) p s (omega (arith, upto-mono j d l))
 
+  pub part-long : (j d : ℕ) (p : List Bool) → j < d → length p ≡ upto F d → length (part F j p) ≡ size F j
+  part-long j d p l e =
+      let h : upto F (suc j) ≤ upto F d = upto-mono (suc j) d l in
+      length-take-le (size F j) (drop (upto F j) p) (simp length-drop (omega arith))
+
   pub part-stays : (j d : ℕ) (p s : List Bool) → j < d → length p ≡ upto F d → part F j (p ++ s) ≡ part F j p
   part-stays j d p s l e =
       let h : upto F (suc j) ≤ upto F d = upto-mono (suc j) d l in
@@ -72,3 +77,6 @@ module _ (F : Formula) where
 
   pub part-new : (d : ℕ) (p s : List Bool) → length p ≡ upto F d → length s ≡ size F d → part F d (p ++ s) ≡ s
   part-new d p s e l = ap (take (size F d)) (drop-at p s (upto F d) e) ∙ take-all (size F d) s (omega arith)
+
+pub last-level : Last-level
+last-level F some = let e : blocks F ≡ suc (pred (blocks F)) = omega arith in (no-size F (blocks F) (omega arith), ap (owner F) e)

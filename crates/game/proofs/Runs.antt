@@ -11,7 +11,7 @@ use Rattle.game.specs.Prefix.{Formula, blocks, owner, size, upto, part, positi
 use Rattle.game.specs.Run.{Tests, Phase, playing, lost, over, Rule, Stuck, Settles, Reaches, start, move, loss, settle, verdict, late}
 use Rattle.game.specs.Claims.{Steady}
 use Rattle.game.proofs.Count.{count-pos, sumTo-low}
-use Rattle.game.proofs.Prefix.{upto-mono, empty, no-size, front-stays, part-stays, part-new}
+use Rattle.game.proofs.Prefix.{upto-mono, empty, no-size, front-stays, part-long, part-stays, part-new}
 use Rattle.game.proofs.Sound.{Sound, starts-sound}
 use Rattle.game.proofs.Settled.{Opposed, Alive, passing, potential, potential-top, settle-sound, settle-opposed, settle-alive, settle-less}
 
@@ -73,7 +73,7 @@ module _ (F : Formula) (Pick : Rule) where
       let long′ : length front ≡ upto F d = length-take-le (upto F d) p (omega arith) in
       let h : upto F j ≤ upto F d = upto-mono F j d (omega arith) in
       let same-part : part F j front ≡ part F j p = sym (part-stays F j d front (drop (upto F d) p) lt long′) ∙ ap (part F j) (take-append-drop (upto F d) p) in
-      steady j (take (upto F j) front) (A (suc j)) (B (suc j)) (part F j front) (λ t l. sym (sets .same j (omega arith) (λ q. omega arith) t l))
+      steady j (take (upto F j) front) (part F j front) (A (suc j)) (B (suc j)) (length-take-le (upto F j) front (omega arith)) (part-long F j d front lt long′) (λ t l. sym (sets .same j (omega arith) (λ q. omega arith) t l))
       (rw (take-take (upto F j) (upto F d) p h, same-part) (kept j (omega arith)))
 
   pub good : 0 < blocks F → {n k : ℕ} {w : Phase} {d : ℕ} {p : List Bool} {A : Tests} → Reaches F Pick n k w d p A → Good F Pick n k w d p A

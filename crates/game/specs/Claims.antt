@@ -67,8 +67,8 @@ Plays-pass = (F : Formula) → 0 < blocks F → (Pick : Rule) (s : State F Pick)
 
 -- a rule that looks at a level's test only at plays of the blocks up to that level
 abbrev pub Steady : Formula → Rule → Type 0
-Steady F Pick = (d : ℕ) (p : List Bool) (f g : List Bool → Bool) (s : List Bool) → ((t : List Bool) → length t ≡ upto F (suc d) → f t ≡ g t) →
-    Pick d p f s ≡ true → Pick d p g s ≡ true
+Steady F Pick = (d : ℕ) (p s : List Bool) (f g : List Bool → Bool) → length p ≡ upto F d → length s ≡ size F d →
+    ((t : List Bool) → length t ≡ upto F (suc d) → f t ≡ g t) → Pick d p f s ≡ true → Pick d p g s ≡ true
 
 -- Every block's play still meets the rule, with the present test of its level.
 abbrev pub Rules-kept : Type 0
@@ -84,11 +84,11 @@ pub record Moves (F : Formula) (Pick : Rule) (d : ℕ) (p : List Bool) (A : Test
 
 -- where some setting passes, the rule lets one be played
 abbrev pub Possible : Formula → Rule → Type 0
-Possible F Pick = (d : ℕ) (p : List Bool) (A : Tests) (s : List Bool) → length s ≡ size F d → A (suc d) (p ++ s) ≡ true → Moves F Pick d p A
+Possible F Pick = (d : ℕ) (p s : List Bool) (A : Tests) → length p ≡ upto F d → length s ≡ size F d → A (suc d) (p ++ s) ≡ true → Moves F Pick d p A
 
 -- While a ticket is out, there is a move or the level has lost.
 abbrev pub Never-stuck : Type 0
-Never-stuck = (F : Formula) (Pick : Rule) → Possible F Pick → (s : State F Pick) → s .phase ≡ playing →
+Never-stuck = (F : Formula) → 0 < blocks F → (Pick : Rule) → Possible F Pick → (s : State F Pick) → s .phase ≡ playing →
     Moves F Pick (s .depth) (s .play) (s .tests) ⊎ Stuck F (s .depth) (s .play) (s .tests)
 
 -- After a loss at level 3 or above there is a settlement.

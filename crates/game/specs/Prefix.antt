@@ -1,7 +1,8 @@
 -- A prenex quantified Boolean formula, its players and its levels. Level d + 1 is reached at depth d, where d blocks are set.
+use mathlib.Core.Path.{_≡_}
 use mathlib.Core.List.{List, [], _∷_}
 use mathlib.Core.Bool.{Bool, true, false, not, cond}
-use Prim.Native.Nat.{ℕ, zero, suc, pred, _+_, _*_, _^_}
+use Prim.Native.Nat.{ℕ, zero, suc, pred, _+_, _^_, _<_}
 use lib.ListN.{length, take, drop}
 
 -- A player is the value that it wants the matrix to have.
@@ -59,6 +60,10 @@ size F d = head0 (rest F d)
 abbrev pub upto : Formula → ℕ → ℕ
 upto F zero = 0
 upto F (suc d) = upto F d + size F d
+
+-- The level past the last block has no variables, and belongs to the player who does not own the last block.
+abbrev pub Last-level : Type 0
+Last-level = (F : Formula) → 0 < blocks F → (size F (blocks F) ≡ 0) × (owner F (blocks F) ≡ not (owner F (pred (blocks F))))
 
 -- of a play, the part that is level d + 1's block
 abbrev pub part : Formula → ℕ → List Bool → List Bool

@@ -63,6 +63,10 @@ pub record State (F : Formula) (Pick : Rule) : Type 0 where
   pub tests : Tests
   pub reached : Reaches F Pick turns settlements phase depth play tests
 
+-- the state at the end of a run
+abbrev pub stateOf : {F : Formula} {Pick : Rule} {n k : ℕ} {w : Phase} {d : ℕ} {p : List Bool} {A : Tests} → Reaches F Pick n k w d p A → State F Pick
+stateOf {F} {Pick} {n} {k} {w} {d} {p} {A} r = record { turns = n; settlements = k; phase = w; depth = d; play = p; tests = A; reached = r }
+
 -- 1 from a loss until its settlement, and after the verdict
 abbrev pub late : Phase → ℕ
 late playing = 0

@@ -1,8 +1,16 @@
 // The game on a prefix, and what holds of every run of the method on it: theorems only.
+ghost use Rattle.game.specs.Prefix.{Last-level};
 ghost use Rattle.game.specs.Game.{Same-game};
 ghost use Rattle.game.specs.Strategy.{Positions-decided, Strategies-decide, Openings-decided};
 ghost use Rattle.game.specs.Claims.{Refutations-sound, Verdicts-right, Openings-win, Turns-counted, Turns-bounded, Turns-left, Bound-met, Grants-suffice};
 ghost use Rattle.game.specs.Claims.{Turns-paid, Plays-pass, Rules-kept, Never-stuck, Always-settles, Verdicts-exist};
+
+// The level past the last block: no variables, and the other player's.
+pub fn last_level() -> u8
+    ensures { λ _. ⌜ Last-level ⌝ }
+{
+    0
+}
 
 // A list of alternating blocks has the game of its formula.
 pub fn same_game() -> u8
