@@ -5,7 +5,7 @@ use mathlib.Core.Bool.{Bool, true, false, not}
 use Prim.Native.Nat.{ℕ, zero, suc, _<_}
 use native.Mathlib.Omega.{arith}
 use lib.ListN.{length, drop, getD}
-use Rattle.game.specs.Prefix.{Formula, head0, tail, owner, rest, size}
+use Rattle.game.specs.Prefix.{Formula, head0, tail, owner, rest}
 use Rattle.game.specs.Game.{someOf, everyOf, Block, gameValue, value, Alternates, formulaOf, Same-game}
 
 -- the owners are in turn o, its opponent, o, ..

@@ -9,7 +9,7 @@ use lib.ListN.{length}
 use Rattle.game.specs.Prefix.{Formula, blocks, owner, upto, sumTo, positions}
 use Rattle.game.specs.Game.{valueAt}
 use Rattle.game.specs.Run.{Tests, Phase, playing, lost, over, Rule, Stuck, State, late}
-use Rattle.game.specs.Claims.{Refutations-sound, Verdicts-right, Openings-win, Turns-counted, Turns-bounded, Turns-left, Bound-met}
+use Rattle.game.specs.Claims.{Refutations-sound, Verdicts-right, Openings-win, Turns-counted, Turns-bounded, Turns-left, Verdict}
 use Rattle.game.specs.Claims.{Grants-suffice, Within, total, Turns-paid, Plays-pass, Rules-kept}
 use Rattle.game.proofs.Settings.{not-not, not-self}
 use Rattle.game.proofs.Strategies.{positions-decided}
@@ -52,9 +52,9 @@ pub refutations-sound : Refutations-sound
 refutations-sound F some Pick s = here F some Pick s .sound
 
 pub verdicts-right : Verdicts-right
-verdicts-right F some Pick s v e =
-    let value = verdict-value F some Pick s v e in
-    (value, positions-decided F v 0 (omega arith) [] refl .0 (sym value))
+verdicts-right F some Pick x =
+    let value = verdict-value F some Pick (x .state) (x .word) (x .said) in
+    (value, positions-decided F (x .word) 0 (omega arith) [] refl .0 (sym value))
 
 pub openings-win : Openings-win
 openings-win F some Pick s late one = record {
@@ -71,9 +71,13 @@ turns-bounded F some Pick s = omega (arith, enough F Pick (here F some Pick s), 
 pub turns-left : Turns-left
 turns-left = left
 
-pub bound-met : Bound-met
-bound-met F one own Pick s v e = deeper (s .depth) refl
+-- with one block that its owner wins there is no settlement, and the verdict comes by a loss at level 2
+pub one-block : (F : Formula) → blocks F ≡ 1 → valueAt F 0 [] ≡ F .first → (Pick : Rule) (x : Verdict F Pick) → x .state .turns ≡ 3 * positions F + 2
+one-block F one own Pick x = deeper (s .depth) refl
   where
+    s : State F Pick
+    s = x .state
+
     some : 0 < blocks F
     some = omega arith
 
@@ -81,8 +85,8 @@ bound-met F one own Pick s v e = deeper (s .depth) refl
     none = ap (λ n. sumTo (pred n) (λ j. 2 ^ upto F j)) one
 
     deeper : (d : ℕ) → s .depth ≡ d → s .turns ≡ 3 * positions F + 2
-    deeper zero h = absurd (not-self (F .first) (ap (λ d. not (owner F d)) (sym h) ∙ sym (judged F some Pick s v e .1) ∙ verdict-value F some Pick s v e ∙ own))
-    deeper (suc d) h = omega (arith, none, here F some Pick s .paid, here F some Pick s .turns, judged F some Pick s v e .0, ap late e)
+    deeper zero h = absurd (not-self (F .first) (ap (λ d. not (owner F d)) (sym h) ∙ sym (judged F some Pick s (x .word) (x .said) .1) ∙ verdict-value F some Pick s (x .word) (x .said) ∙ own))
+    deeper (suc d) h = omega (arith, none, here F some Pick s .paid, here F some Pick s .turns, judged F some Pick s (x .word) (x .said) .0, ap late (x .said))
 
 pub grants-suffice : Grants-suffice
 grants-suffice F some Pick s e c used h =

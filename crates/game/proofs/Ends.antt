@@ -9,11 +9,11 @@ use lib.ListN.{length, take, drop, take-append-drop}
 use Rattle.std.proofs.shelf.Tests.{cases-bool}
 use Rattle.game.specs.Prefix.{Formula, wants, blocks, owner, size, upto, positions}
 use Rattle.game.specs.Game.{someOf}
-use Rattle.game.specs.Run.{Tests, Phase, playing, lost, over, Rule, Starts, Stuck, Settles, Reaches, start, move, loss, settle, verdict, State, stateOf, late}
-use Rattle.game.specs.Claims.{Moves, Possible, Never-stuck, Always-settles, Verdicts-exist}
+use Rattle.game.specs.Run.{Tests, playing, lost, Rule, any, Starts, Stuck, Moves, Possible, Settles, Reaches, start, move, loss, settle, verdict, stateOf, late}
+use Rattle.game.specs.Claims.{Verdict, Bound-met, Never-stuck, Always-settles, Verdicts-exist, Any-allows}
 use Rattle.game.proofs.Settings.{and-right, some-miss, some-none, firstOf, first-long, first-passes}
 use Rattle.game.proofs.Runs.{good}
-use Rattle.game.proofs.Claims.{stuck-here, turns-left}
+use Rattle.game.proofs.Claims.{stuck-here, turns-left, one-block}
 
 -- the tests with another one at level i
 abbrev update : ℕ → (List Bool → Bool) → Tests → Tests
@@ -41,6 +41,7 @@ and-rest true b e h = h
 and-rest false b e h = absurd (false≢true e)
 
 module _ (F : Formula) where
+  -- one of the finitely many settings passes, or none does
   turn : (Pick : Rule) → Possible F Pick → (d : ℕ) (p : List Bool) (A : Tests) → length p ≡ upto F d → Moves F Pick d p A ⊎ Stuck F d p A
   turn Pick possible d p A long = elim (cases-bool (someOf (size F d) test)) [
     | inl h ↦ inl (possible d p (firstOf (size F d) test) A long (first-long (size F d) test) (first-passes (size F d) test h))
@@ -83,8 +84,7 @@ module _ (F : Formula) where
   unfolding initial goal
   initially =
       let under : Tests = update (blocks F) goal (λ j t. true) in
-      let n : (t : List Bool) → initial (blocks F) t ≡ goal t =
-      λ t. off (suc (blocks F)) (λ t. not (goal t)) under (blocks F) (λ e. omega arith) t ∙ at (blocks F) goal (λ j t. true) t in
+      let n : (t : List Bool) → initial (blocks F) t ≡ goal t = λ t. off (suc (blocks F)) (λ t. not (goal t)) under (blocks F) (λ e. omega arith) t ∙ at (blocks F) goal (λ j t. true) t in
       record {
         early = λ j h t l. off (suc (blocks F)) (λ t. not (goal t)) under (suc j) (λ e. omega arith) t ∙ off (blocks F) goal (λ j t. true) (suc j) (λ e. omega arith) t;
         last = λ t l. n t;
@@ -92,19 +92,17 @@ module _ (F : Formula) where
       }
 
   module _ (some : 0 < blocks F) (Pick : Rule) (possible : Possible F Pick) where
-    Verdict : Type 0
-    Verdict = (s : State F Pick) × (v : Bool) × (s .phase ≡ over v)
-
+    -- a loss is settled, or gives the verdict
     after-loss : (d n k : ℕ) (p : List Bool) (A : Tests) → Reaches F Pick n k lost d p A →
-        ((e j : ℕ) (q : List Bool) (B : Tests) → Reaches F Pick n j playing e q B → Verdict) → Verdict
-    unfolding Verdict
-    after-loss zero n k p A r on = (stateOf (verdict r (omega arith)), _, refl)
-    after-loss (suc zero) n k p A r on = (stateOf (verdict r (omega arith)), _, refl)
+        ((e j : ℕ) (q : List Bool) (B : Tests) → Reaches F Pick n j playing e q B → Verdict F Pick) → Verdict F Pick
+    after-loss zero n k p A r on = record { state = stateOf (verdict r (omega arith)); word = _; said = refl }
+    after-loss (suc zero) n k p A r on = record { state = stateOf (verdict r (omega arith)); word = _; said = refl }
     after-loss (suc (suc d)) n k p A r on =
         let x = settling d p A (good F Pick some r .adds) in
         on d (suc k) (take (upto F d) p) (x .0) (settle r (x .1))
 
-    goes-on : (fuel n k d : ℕ) (p : List Bool) (A : Tests) → Reaches F Pick n k playing d p A → 3 * positions F + 2 ≤ n + fuel → Verdict
+    -- the number of turns rises to its bound
+    goes-on : (fuel n k d : ℕ) (p : List Bool) (A : Tests) → Reaches F Pick n k playing d p A → 3 * positions F + 2 ≤ n + fuel → Verdict F Pick
     goes-on zero n k d p A r h = absurd (omega (arith, turns-left F some Pick (stateOf r) refl))
     goes-on (suc fuel) n k d p A r h =
         elim (turn Pick possible d p A (good F Pick some r .long)) [
@@ -120,5 +118,13 @@ always-settles F some Pick s d e deep =
     settling F d (s .play) (s .tests) (subst (λ k. Stuck F k (s .play) (s .tests)) deep (stuck-here F some Pick s (ap late e)))
 
 pub verdicts-exist : Verdicts-exist
-unfolding Verdict
 verdicts-exist F some Pick possible = goes-on F some Pick possible (3 * positions F + 2) 0 0 0 [] (initial F) (start (initially F)) (omega arith)
+
+pub any-allows : Any-allows
+any-allows F = (
+  λ d p s f g lp ls same h. refl,
+  λ d p s A lp ls passes. record { setting = s; fits = ls; passes = passes; picked = refl },
+)
+
+pub bound-met : Bound-met
+bound-met F one own = (verdicts-exist F (omega arith) any (any-allows F .1), one-block F one own)

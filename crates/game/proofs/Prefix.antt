@@ -1,16 +1,17 @@
 -- The prefix: how many variables its parts have, and one block of the game, where a setting that wins wins it and it is lost where every setting loses.
-use mathlib.Core.Path.{_≡_, refl, ap, sym, _∙_}
+use mathlib.Core.Path.{_≡_, refl, ap, _∙_}
 use mathlib.Core.List.{List, [], _∷_, _++_, append-nil}
 use mathlib.Core.Bool.{Bool, true, false, not}
-use Prim.Native.Nat.{ℕ, zero, suc, pred, _+_, _-_, _≤_, _<_}
+use Prim.Native.Nat.{ℕ, zero, suc, pred, _-_, _≤_, _<_}
 use native.Mathlib.Omega.{arith}
 use native.Mathlib.Decide.{decLe}
-use lib.ListN.{length, take, drop, length-append, length-drop}
+use lib.ListN.{length, take, drop, length-drop}
 use lib.Seq.{take-append-le, drop-append-le, drop-at, take-all, length-take-le}
 use Rattle.game.specs.Prefix.{Formula, blocks, owner, head0, tail, rest, size, upto, part, Last-level}
 use Rattle.game.specs.Game.{value, valueAt}
 use Rattle.game.proofs.Settings.{some-hit, every-hit, some-miss, every-miss}
 
+-- a setting with which the first block's owner wins
 wins : (m : List Bool → Bool) (o : Bool) (ks : List ℕ) (t s : List Bool) → length s ≡ head0 ks →
     value m (not o) (tail ks) (t ++ s) ≡ o → value m o ks t ≡ o
 wins m o [] t [] e h = rw append-nil at h
@@ -18,6 +19,7 @@ wins m o [] t (x ∷ s) e h = absurd (omega arith)
 wins m true (k ∷ ks) t s e h = rw (← e) (some-hit s (λ r. value m false ks (t ++ r)) h)
 wins m false (k ∷ ks) t s e h = rw (← e) (every-hit s (λ r. value m true ks (t ++ r)) h)
 
+-- every setting loses for the first block's owner
 loses : (m : List Bool → Bool) (o : Bool) (ks : List ℕ) (t : List Bool) →
     ((s : List Bool) → length s ≡ head0 ks → value m (not o) (tail ks) (t ++ s) ≡ not o) → value m o ks t ≡ not o
 loses m o [] t h = rw append-nil at (h [] refl)
@@ -33,14 +35,14 @@ tail-length [] = refl
 tail-length (k ∷ ks) = refl
 
 module _ (F : Formula) where
-  -- a setting with which the owner of level d + 1 wins
+  -- the same at level d + 1
   pub level-won : (d : ℕ) (t s : List Bool) → length s ≡ size F d → valueAt F (suc d) (t ++ s) ≡ owner F d → valueAt F d t ≡ owner F d
   level-won d = wins (F .matrix) (owner F d) (rest F d)
 
-  -- every setting loses for the owner of level d + 1
   pub level-lost : (d : ℕ) (t : List Bool) → ((s : List Bool) → length s ≡ size F d → valueAt F (suc d) (t ++ s) ≡ not (owner F d)) → valueAt F d t ≡ not (owner F d)
   level-lost d = loses (F .matrix) (owner F d) (rest F d)
 
+  -- more blocks have no fewer variables
   pub upto-mono : (i d : ℕ) → i ≤ d → upto F i ≤ upto F d
   upto-mono i zero h = let e : i ≡ 0 = omega arith in rw e (omega arith)
   upto-mono i (suc d) h =

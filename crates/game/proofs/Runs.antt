@@ -1,15 +1,14 @@
 -- What holds in every state of a run, by one induction over the run.
-use mathlib.Core.Path.{_≡_, refl, ap, sym, subst, _∙_}
+use mathlib.Core.Path.{_≡_, refl, ap, sym, _∙_}
 use mathlib.Core.List.{List, [], _++_, append-nil}
-use mathlib.Core.Bool.{Bool, true, false, not, false≢true}
+use mathlib.Core.Bool.{Bool, true, not, false≢true}
 use Prim.Native.Nat.{ℕ, zero, suc, pred, _+_, _*_, _≤_, _<_, min}
 use native.Mathlib.Omega.{arith}
 use native.Mathlib.Decide.{ℕ-discrete, decLt}
 use lib.ListN.{length, take, drop, length-append, take-append-drop}
 use lib.Seq.{take-take, take-at, take-all, length-take-le}
 use Rattle.game.specs.Prefix.{Formula, blocks, owner, size, upto, part, positions}
-use Rattle.game.specs.Run.{Tests, Phase, playing, lost, over, Rule, Stuck, Settles, Reaches, start, move, loss, settle, verdict, late}
-use Rattle.game.specs.Claims.{Steady}
+use Rattle.game.specs.Run.{Tests, Phase, playing, lost, over, Rule, Steady, Stuck, Settles, Reaches, start, move, loss, settle, verdict, late}
 use Rattle.game.proofs.Count.{count-pos, sumTo-low}
 use Rattle.game.proofs.Prefix.{upto-mono, empty, no-size, front-stays, part-long, part-stays, part-new}
 use Rattle.game.proofs.Sound.{Sound, starts-sound}
@@ -25,6 +24,7 @@ Adds F playing d p A = Unit {0}
 Adds F lost d p A = Stuck F d p A
 Adds F (over v) d p A = Stuck F d p A × (d ≤ 1) × (v ≡ not (owner F d))
 
+-- what holds in a state that a run reaches
 pub record Good (F : Formula) (Pick : Rule) (n k : ℕ) (w : Phase) (d : ℕ) (p : List Bool) (A : Tests) : Type 0 where
   pub deep : d ≤ blocks F
   pub long : length p ≡ upto F d
@@ -66,6 +66,7 @@ module _ (F : Formula) (Pick : Rule) where
         | no i ↦ rw (front-stays F j d p s (omega arith) long, part-stays F j d p s (omega arith) long) (kept j (omega arith))
       ]
 
+  -- a settlement takes back the play of the level whose test changes
   settled-kept : Steady F Pick → (d : ℕ) (p : List Bool) (A B : Tests) → suc (suc d) ≤ blocks F → length p ≡ upto F (suc (suc d)) → Settles F d p A B →
       Kept F Pick (suc (suc d)) p A → Kept F Pick d (take (upto F d) p) B
   settled-kept steady d p A B le long sets kept j lt =
@@ -73,9 +74,11 @@ module _ (F : Formula) (Pick : Rule) where
       let long′ : length front ≡ upto F d = length-take-le (upto F d) p (omega arith) in
       let h : upto F j ≤ upto F d = upto-mono F j d (omega arith) in
       let same-part : part F j front ≡ part F j p = sym (part-stays F j d front (drop (upto F d) p) lt long′) ∙ ap (part F j) (take-append-drop (upto F d) p) in
-      steady j (take (upto F j) front) (part F j front) (A (suc j)) (B (suc j)) (length-take-le (upto F j) front (omega arith)) (part-long F j d front lt long′) (λ t l. sym (sets .same j (omega arith) (λ q. omega arith) t l))
+      steady j (take (upto F j) front) (part F j front) (A (suc j)) (B (suc j)) (length-take-le (upto F j) front (omega arith))
+      (part-long F j d front lt long′) (λ t l. sym (sets .same j (omega arith) (λ q. omega arith) t l))
       (rw (take-take (upto F j) (upto F d) p h, same-part) (kept j (omega arith)))
 
+  -- the one induction
   pub good : 0 < blocks F → {n k : ℕ} {w : Phase} {d : ℕ} {p : List Bool} {A : Tests} → Reaches F Pick n k w d p A → Good F Pick n k w d p A
   good some (start {A = A} st) = record {
     deep = omega arith;
@@ -122,12 +125,13 @@ module _ (F : Formula) (Pick : Rule) where
       let g = good some r in
       record { deep = g .deep; long = g .long; sound = g .sound; opposed = g .opposed; alive = g .alive; kept = g .kept; paid = g .paid; turns = g .turns; adds = (g .adds, le, refl) }
 
-  -- each block that is set still has a play that passes, so settlements and depth together stay within the positions
+  -- each block that is set still has a play that passes, which leaves the fewer for settlements
   pub enough : {n k : ℕ} {w : Phase} {d : ℕ} {p : List Bool} {A : Tests} → Good F Pick n k w d p A → n ≤ 3 * positions F + 1 + late w
   enough {d = d} {p = p} {A = A} g =
-      let some : (j : ℕ) → j < d → 0 < passing F A (suc j) = λ j l.
-      let lx : length (take (upto F (suc j)) p) ≡ upto F (suc j) =
-      length-take-le (upto F (suc j)) p (omega (arith, upto-mono F (suc j) d l)) in
-      rw lx at (count-pos (A (suc j)) (take (upto F (suc j)) p) (g .alive j l)) in
       let low : min d (pred (blocks F)) ≤ potential F A = sumTo-low (pred (blocks F)) d (passing F A) some in
       omega arith
+    where
+      some : (j : ℕ) → j < d → 0 < passing F A (suc j)
+      some j l =
+          let lx : length (take (upto F (suc j)) p) ≡ upto F (suc j) = length-take-le (upto F (suc j)) p (omega (arith, upto-mono F (suc j) d l)) in
+          rw lx at (count-pos (A (suc j)) (take (upto F (suc j)) p) (g .alive j l))

@@ -31,6 +31,7 @@ same-or-not true false = inr refl
 same-or-not false true = inr refl
 same-or-not false false = inl refl
 
+-- what a player wants is its own value, and what it does not want the other
 pub wants-true : (o v : Bool) → wants o v ≡ true → v ≡ o
 wants-true true v e = e
 wants-true false v e = sym (not-not v) ∙ ap not e
@@ -39,6 +40,7 @@ pub wants-false : (o v : Bool) → wants o v ≡ false → v ≡ not o
 wants-false true v e = e
 wants-false false v e = sym (not-not v) ∙ ap not e
 
+-- a setting that passes, or one that fails, decides it
 pub some-hit : (s : List Bool) (f : List Bool → Bool) → f s ≡ true → someOf (length s) f ≡ true
 some-hit [] f h = h
 some-hit (false ∷ s) f h = rw (some-hit s (λ r. f (false ∷ r)) h)
@@ -49,6 +51,7 @@ every-hit [] f h = h
 every-hit (false ∷ s) f h = rw (every-hit s (λ r. f (false ∷ r)) h)
 every-hit (true ∷ s) f h = rw (every-hit s (λ r. f (true ∷ r)) h) (and-right _)
 
+-- so do settings that all fail, or all pass
 pub some-miss : (k : ℕ) (f : List Bool → Bool) → ((s : List Bool) → length s ≡ k → f s ≡ false) → someOf k f ≡ false
 some-miss zero f h = h [] refl
 some-miss (suc k) f h = rw (some-miss k (λ s. f (false ∷ s)) (λ s e. h (false ∷ s) (ap suc e)), some-miss k (λ s. f (true ∷ s)) (λ s e. h (true ∷ s) (ap suc e)))
@@ -57,6 +60,7 @@ pub every-miss : (k : ℕ) (f : List Bool → Bool) → ((s : List Bool) → len
 every-miss zero f h = h [] refl
 every-miss (suc k) f h = rw (every-miss k (λ s. f (false ∷ s)) (λ s e. h (false ∷ s) (ap suc e)), every-miss k (λ s. f (true ∷ s)) (λ s e. h (true ∷ s) (ap suc e)))
 
+-- where none passes, each fails
 pub some-none : (f : List Bool → Bool) (s : List Bool) → someOf (length s) f ≡ false → f s ≡ false
 some-none f s h = elim (cases-bool (f s)) [ inl e ↦ absurd (true≢false (sym (some-hit s f e) ∙ h)) | inr e ↦ e ]
 

@@ -1,9 +1,9 @@
 -- What a settlement keeps: the tests stay sound, what is left of the play still passes, and one more play is refuted for good.
-use mathlib.Core.Path.{_≡_, refl, ap, sym, _∙_}
+use mathlib.Core.Path.{_≡_, ap, sym, _∙_}
 use mathlib.Core.Logic.{inl, inr}
 use mathlib.Core.List.{List, _++_}
 use mathlib.Core.Bool.{Bool, true, false, not}
-use Prim.Native.Nat.{ℕ, suc, pred, _+_, _^_, _≤_, _<_}
+use Prim.Native.Nat.{ℕ, suc, pred, _^_, _≤_, _<_}
 use native.Mathlib.Omega.{arith}
 use native.Mathlib.Decide.{ℕ-discrete}
 use lib.ListN.{length, take, drop, length-append, length-drop}
@@ -33,6 +33,7 @@ passing F A j = count (upto F j) (A j)
 abbrev pub potential : Formula → Tests → ℕ
 potential F A = sumTo (pred (blocks F)) (passing F A)
 
+-- at first no more can pass than there are
 pub potential-top : (F : Formula) (A : Tests) → potential F A ≤ positions F
 potential-top F A = sumTo-le (pred (blocks F)) (passing F A) (λ j. 2 ^ upto F j) (λ j l. count-top (upto F (suc j)) (A (suc j)))
 
@@ -42,8 +43,7 @@ module _ (F : Formula) (d : ℕ) (p : List Bool) (A B : Tests) (le : suc (suc d)
   newly snd t len yes′ no′ =
       let reply = drop (upto F (suc d)) p in
       let fits : length reply ≡ size F (suc d) = simp length-drop (omega arith) in
-      let lost : valueAt F (suc (suc d)) (t ++ reply) ≡ not (owner F (suc (suc d))) =
-      stuck-lost F A snd (suc (suc d)) le (t ++ reply) (simp length-append (omega arith)) (sets .just t len yes′ no′) in
+      let lost : valueAt F (suc (suc d)) (t ++ reply) ≡ not (owner F (suc (suc d))) = stuck-lost F A snd (suc (suc d)) le (t ++ reply) (simp length-append (omega arith)) (sets .just t len yes′ no′) in
       level-won F (suc d) t reply fits (lost ∙ not-not (owner F (suc d)))
 
   at-settled : Sound F A → (t : List Bool) → length t ≡ upto F (suc d) → B (suc d) t ≡ false → valueAt F (suc d) t ≡ not (owner F d)
@@ -71,6 +71,7 @@ module _ (F : Formula) (d : ℕ) (p : List Bool) (A B : Tests) (le : suc (suc d)
       let lx : length (take (upto F (suc j)) p) ≡ upto F (suc j) = length-take-le (upto F (suc j)) p (omega arith) in
       rw (take-take (upto F (suc j)) (upto F d) p h) (sets .same j (omega arith) (λ q. omega arith) (take (upto F (suc j)) p) lx ∙ al j (omega arith))
 
+  -- no level's test passes more often than before
   passing-le : (j : ℕ) → j < pred (blocks F) → passing F B (suc j) ≤ passing F A (suc j)
   passing-le j l =
       elim (ℕ-discrete j d) [
@@ -78,10 +79,10 @@ module _ (F : Formula) (d : ℕ) (p : List Bool) (A B : Tests) (le : suc (suc d)
         | no e ↦ count-le (upto F (suc j)) (B (suc j)) (A (suc j)) (λ t len h. sym (sets .same j (omega arith) e t len) ∙ h)
       ]
 
+  -- the present play passed, and now fails
   pub settle-less : Alive F (suc (suc d)) p A → potential F B < potential F A
   settle-less al =
       let x = take (upto F (suc d)) p in
       let lx : length x ≡ upto F (suc d) = length-take-le (upto F (suc d)) p (omega arith) in
-      let c : count (upto F (suc d)) (B (suc d)) < count (upto F (suc d)) (A (suc d)) =
-      rw lx at (count-lt (B (suc d)) (A (suc d)) x (λ s e h. sets .falls s (e ∙ lx) h) (sets .own) (al d (omega arith))) in
+      let c : count (upto F (suc d)) (B (suc d)) < count (upto F (suc d)) (A (suc d)) = rw lx at (count-lt (B (suc d)) (A (suc d)) x (λ s e h. sets .falls s (e ∙ lx) h) (sets .own) (al d (omega arith))) in
       sumTo-lt (pred (blocks F)) d (passing F B) (passing F A) passing-le (omega arith) c

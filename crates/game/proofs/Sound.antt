@@ -1,12 +1,12 @@
 -- Tests that fail only where the level's owner has lost: they are so at the start, and where every setting of a level is refuted its owner has lost.
-use mathlib.Core.Path.{_≡_, refl, ap, sym, _∙_}
+use mathlib.Core.Path.{_≡_, ap, sym, _∙_}
 use mathlib.Core.List.{List, [], _++_}
 use mathlib.Core.Bool.{Bool, true, false, not, true≢false}
-use Prim.Native.Nat.{ℕ, zero, suc, pred, _+_, _≤_, _<_}
+use Prim.Native.Nat.{ℕ, zero, suc, pred, _≤_, _<_}
 use native.Mathlib.Omega.{arith}
 use native.Mathlib.Decide.{ℕ-discrete}
 use lib.ListN.{length, length-append}
-use Rattle.game.specs.Prefix.{Formula, wants, blocks, owner, size, upto}
+use Rattle.game.specs.Prefix.{Formula, wants, blocks, owner, upto}
 use Rattle.game.specs.Game.{valueAt}
 use Rattle.game.specs.Run.{Tests, Starts, Stuck}
 use Rattle.game.proofs.Settings.{not-not, wants-true, wants-false}
@@ -17,6 +17,7 @@ abbrev pub Sound : Formula → Tests → Type 0
 Sound F A = (d : ℕ) → d ≤ blocks F → (t : List Bool) → length t ≡ upto F (suc d) → A (suc d) t ≡ false → valueAt F (suc d) t ≡ not (owner F d)
 
 module _ (F : Formula) where
+  -- at the start only the last two tests refute anything, by the matrix
   pub starts-sound : 0 < blocks F → (A : Tests) → Starts F A → Sound F A
   starts-sound some A st = go (pred (blocks F)) (omega arith)
     where
@@ -35,6 +36,7 @@ module _ (F : Formula) where
             ]
           ]
 
+  -- where every setting is refuted the level's owner has lost
   pub stuck-lost : (A : Tests) → Sound F A → (d : ℕ) → d ≤ blocks F → (p : List Bool) → length p ≡ upto F d → Stuck F d p A → valueAt F d p ≡ not (owner F d)
   stuck-lost A snd d le p len st = level-lost F d p (λ s e. snd d le (p ++ s) (simp length-append (omega arith)) (st s e))
 

@@ -1,6 +1,6 @@
 -- The value of a position is what a player wants exactly if that player has a strategy that wins from there.
 use mathlib.Core.Path.{_≡_, refl, ap, sym, _∙_}
-use mathlib.Core.Logic.{_↔_, inl, inr}
+use mathlib.Core.Logic.{inl, inr}
 use mathlib.Core.List.{List, [], _++_}
 use mathlib.Core.Bool.{Bool, true, false, not}
 use Prim.Native.Nat.{ℕ, zero, suc, _+_, _-_, _≤_, _<_}
@@ -9,9 +9,9 @@ use native.Mathlib.Decide.{ℕ-discrete}
 use lib.ListN.{length, take, drop, length-append, length-drop}
 use lib.Seq.{take-add, take-take, take-at, take-all, length-take-le}
 use Rattle.std.proofs.shelf.Tests.{cases-bool}
-use Rattle.game.specs.Prefix.{Player, wants, Formula, blocks, owner, rest, size, upto}
-use Rattle.game.specs.Game.{someOf, valueAt, Opening}
-use Rattle.game.specs.Strategy.{Strategy, Follows, WinsFrom, HasWin, Positions-decided, Strategies-decide, Openings-decided}
+use Rattle.game.specs.Prefix.{Player, wants, Formula, blocks, owner, size, upto}
+use Rattle.game.specs.Game.{someOf, valueAt}
+use Rattle.game.specs.Strategy.{Strategy, Follows, WinsFrom, Positions-decided, Strategies-decide, Openings-decided}
 use Rattle.game.proofs.Settings.{not-not, not-self, same-or-not, wants-true, wants-false, some-none, firstOf, first-long, first-passes}
 use Rattle.game.proofs.Prefix.{level-won, level-lost, upto-mono, at-end}
 
@@ -24,6 +24,7 @@ module _ (F : Formula) (o : Player) where
   best : Strategy F o
   best = record { setting = λ d t. firstOf (size F d) (good-setting d t); fits = λ d l e t h. first-long (size F d) (good-setting d t) }
 
+  -- at the player's own block it keeps what is won
   own-step : (d : ℕ) → owner F d ≡ o → (p : List Bool) → valueAt F d p ≡ o → valueAt F (suc d) (p ++ best .setting d p) ≡ o
   unfolding good-setting best
   own-step d e p v = elim (cases-bool (someOf (size F d) (good-setting d p))) [
@@ -34,6 +35,7 @@ module _ (F : Formula) (o : Player) where
       lost : someOf (size F d) (good-setting d p) ≡ false → valueAt F d p ≡ not o
       lost h = level-lost F d p (λ s l. wants-false o _ (some-none (good-setting d p) s (rw l h)) ∙ ap not (sym e)) ∙ ap not e
 
+  -- at the opponent's block no setting loses it
   other-step : (d : ℕ) → owner F d ≡ not o → (p : List Bool) → valueAt F d p ≡ o → (s : List Bool) → length s ≡ size F d → valueAt F (suc d) (p ++ s) ≡ o
   other-step d e p v s l = elim (same-or-not (valueAt F (suc d) (p ++ s)) o) [
     | inl h ↦ h
@@ -49,6 +51,7 @@ module _ (F : Formula) (o : Player) where
           (other-step d e (take (upto F d) t) v (take (size F d) (drop (upto F d) t)) (length-take-le (size F d) (drop (upto F d) t) (simp length-drop (omega arith)))))
     ]
 
+    -- by the k blocks that are left
     won : (k d : ℕ) → blocks F ≡ k + d → Follows F o best d t → valueAt F d (take (upto F d) t) ≡ o → F .matrix t ≡ o
     won zero d e f v =
         let n : blocks F ≡ d = omega arith in
@@ -60,6 +63,7 @@ module _ (F : Formula) (o : Player) where
   best-wins d l p v t full e f = won t full (blocks F - d) d (omega arith) f (rw e v)
 
   module _ (σ : Strategy F o) where
+    -- what wins from here wins after the next block, if that is played by the strategy or is the opponent's
     extends : (d : ℕ) (p s : List Bool) → length p ≡ upto F d → (owner F d ≡ o → s ≡ σ .setting d p) → WinsFrom F o σ d p → WinsFrom F o σ (suc d) (p ++ s)
     extends d p s lp own w t full e f =
         let front : take (upto F d) t ≡ p = sym (take-take (upto F d) (upto F (suc d)) t (omega arith)) ∙ ap (take (upto F d)) e ∙ take-at p s (upto F d) lp in
@@ -68,6 +72,7 @@ module _ (F : Formula) (o : Player) where
           | no i ↦ f j (omega arith) b mine
         ])
 
+    -- by the k blocks that are left, a strategy that wins shows the value
     worth : (k d : ℕ) → blocks F ≡ k + d → (p : List Bool) → length p ≡ upto F d → WinsFrom F o σ d p → valueAt F d p ≡ o
     worth zero d e p lp w =
         let n : blocks F ≡ d = omega arith in

@@ -1,23 +1,29 @@
 -- What holds of every run, by whatever rule for moves. S is `positions F`.
 use mathlib.Core.Path.{_≡_}
 use mathlib.Core.Logic.{_⊎_}
-use mathlib.Core.List.{List, [], _∷_, _++_}
+use mathlib.Core.List.{List, [], _∷_}
 use mathlib.Core.Bool.{Bool, true, false, not}
 use Prim.Native.Nat.{ℕ, suc, _+_, _*_, _≤_, _<_}
 use lib.ListN.{length, take}
-use Rattle.game.specs.Prefix.{Formula, blocks, owner, size, upto, part, positions}
+use Rattle.game.specs.Prefix.{Formula, blocks, owner, upto, part, positions}
 use Rattle.game.specs.Game.{valueAt, Opening}
 use Rattle.game.specs.Strategy.{HasWin}
-use Rattle.game.specs.Run.{Tests, playing, lost, over, Rule, Stuck, Settles, State, late}
+use Rattle.game.specs.Run.{Tests, playing, lost, over, Rule, any, Steady, Stuck, Moves, Possible, Settles, State, late}
 
 -- A play at which a level's test fails is lost for that level's owner.
 abbrev pub Refutations-sound : Type 0
 Refutations-sound = (F : Formula) → 0 < blocks F → (Pick : Rule) (s : State F Pick) →
     (d : ℕ) → d ≤ blocks F → (t : List Bool) → length t ≡ upto F (suc d) → s .tests (suc d) t ≡ false → valueAt F (suc d) t ≡ not (owner F d)
 
+-- A run that has reached a verdict.
+pub record Verdict (F : Formula) (Pick : Rule) : Type 0 where
+  pub state : State F Pick
+  pub word : Bool
+  pub said : state .phase ≡ over word
+
 -- A verdict is the formula's value, and the player whom it names has a winning strategy.
 abbrev pub Verdicts-right : Type 0
-Verdicts-right = (F : Formula) → 0 < blocks F → (Pick : Rule) (s : State F Pick) (v : Bool) → s .phase ≡ over v → (v ≡ valueAt F 0 []) × HasWin F v 0 []
+Verdicts-right = (F : Formula) → 0 < blocks F → (Pick : Rule) (x : Verdict F Pick) → (x .word ≡ valueAt F 0 []) × HasWin F (x .word) 0 []
 
 -- After a loss at level 2, and after the verdict that follows it, the first block's play is an opening.
 abbrev pub Openings-win : Type 0
@@ -35,9 +41,10 @@ Turns-bounded = (F : Formula) → 0 < blocks F → (Pick : Rule) (s : State F Pi
 abbrev pub Turns-left : Type 0
 Turns-left = (F : Formula) → 0 < blocks F → (Pick : Rule) (s : State F Pick) → s .phase ≡ playing → s .turns ≤ 3 * positions F + 1
 
--- With one block that its owner wins, every verdict comes after 3 S + 2 turns.
+-- The bound is met: on one block that its owner wins, some run reaches a verdict, and every run that does takes 3 S + 2 turns.
 abbrev pub Bound-met : Type 0
-Bound-met = (F : Formula) → blocks F ≡ 1 → valueAt F 0 [] ≡ F .first → (Pick : Rule) (s : State F Pick) (v : Bool) → s .phase ≡ over v → s .turns ≡ 3 * positions F + 2
+Bound-met = (F : Formula) → blocks F ≡ 1 → valueAt F 0 [] ≡ F .first →
+    Verdict F any × ((Pick : Rule) (x : Verdict F Pick) → x .state .turns ≡ 3 * positions F + 2)
 
 -- Where at most c steps a turn are used and a ticket is out, (3 S + 2) × c steps cover a further turn.
 abbrev pub Grants-suffice : Type 0
@@ -65,26 +72,10 @@ abbrev pub Plays-pass : Type 0
 Plays-pass = (F : Formula) → 0 < blocks F → (Pick : Rule) (s : State F Pick) →
     (s .depth ≤ blocks F) × (length (s .play) ≡ upto F (s .depth)) × ((j : ℕ) → j < s .depth → s .tests (suc j) (take (upto F (suc j)) (s .play)) ≡ true)
 
--- a rule that looks at a level's test only at plays of the blocks up to that level
-abbrev pub Steady : Formula → Rule → Type 0
-Steady F Pick = (d : ℕ) (p s : List Bool) (f g : List Bool → Bool) → length p ≡ upto F d → length s ≡ size F d →
-    ((t : List Bool) → length t ≡ upto F (suc d) → f t ≡ g t) → Pick d p f s ≡ true → Pick d p g s ≡ true
-
 -- Every block's play still meets the rule, with the present test of its level.
 abbrev pub Rules-kept : Type 0
 Rules-kept = (F : Formula) → 0 < blocks F → (Pick : Rule) → Steady F Pick → (s : State F Pick) (j : ℕ) → j < s .depth →
     Pick j (take (upto F j) (s .play)) (s .tests (suc j)) (part F j (s .play)) ≡ true
-
--- a setting that may be played
-pub record Moves (F : Formula) (Pick : Rule) (d : ℕ) (p : List Bool) (A : Tests) : Type 0 where
-  pub setting : List Bool
-  pub fits : length setting ≡ size F d
-  pub passes : A (suc d) (p ++ setting) ≡ true
-  pub picked : Pick d p (A (suc d)) setting ≡ true
-
--- where some setting passes, the rule lets one be played
-abbrev pub Possible : Formula → Rule → Type 0
-Possible F Pick = (d : ℕ) (p s : List Bool) (A : Tests) → length p ≡ upto F d → length s ≡ size F d → A (suc d) (p ++ s) ≡ true → Moves F Pick d p A
 
 -- While a ticket is out, there is a move or the level has lost.
 abbrev pub Never-stuck : Type 0
@@ -98,4 +89,8 @@ Always-settles = (F : Formula) → 0 < blocks F → (Pick : Rule) (s : State F P
 
 -- Some run reaches a verdict.
 abbrev pub Verdicts-exist : Type 0
-Verdicts-exist = (F : Formula) → 0 < blocks F → (Pick : Rule) → Possible F Pick → (s : State F Pick) × (v : Bool) × (s .phase ≡ over v)
+Verdicts-exist = (F : Formula) → 0 < blocks F → (Pick : Rule) → Possible F Pick → Verdict F Pick
+
+-- Where no further rule is set, both conditions on rules hold.
+abbrev pub Any-allows : Type 0
+Any-allows = (F : Formula) → Steady F any × Possible F any

@@ -24,6 +24,11 @@ Rule = ℕ → List Bool → (List Bool → Bool) → List Bool → Bool
 abbrev pub any : Rule
 any d p f s = true
 
+-- a rule that looks at a level's test only at plays of the blocks up to that level
+abbrev pub Steady : Formula → Rule → Type 0
+Steady F Pick = (d : ℕ) (p s : List Bool) (f g : List Bool → Bool) → length p ≡ upto F d → length s ≡ size F d →
+    ((t : List Bool) → length t ≡ upto F (suc d) → f t ≡ g t) → Pick d p f s ≡ true → Pick d p g s ≡ true
+
 -- The tests at the start: true below the last block, there what its owner wants of the matrix, and past it the opposite.
 pub record Starts (F : Formula) (A : Tests) : Type 0 where
   pub early : (j : ℕ) → suc j < blocks F → (t : List Bool) → length t ≡ upto F (suc j) → A (suc j) t ≡ true
@@ -33,6 +38,17 @@ pub record Starts (F : Formula) (A : Tests) : Type 0 where
 -- after the play p, level d + 1's test fails for every setting of its block
 abbrev pub Stuck : Formula → ℕ → List Bool → Tests → Type 0
 Stuck F d p A = (s : List Bool) → length s ≡ size F d → A (suc d) (p ++ s) ≡ false
+
+-- a setting that may be played
+pub record Moves (F : Formula) (Pick : Rule) (d : ℕ) (p : List Bool) (A : Tests) : Type 0 where
+  pub setting : List Bool
+  pub fits : length setting ≡ size F d
+  pub passes : A (suc d) (p ++ setting) ≡ true
+  pub picked : Pick d p (A (suc d)) setting ≡ true
+
+-- where some setting passes, the rule lets one be played
+abbrev pub Possible : Formula → Rule → Type 0
+Possible F Pick = (d : ℕ) (p s : List Bool) (A : Tests) → length p ≡ upto F d → length s ≡ size F d → A (suc d) (p ++ s) ≡ true → Moves F Pick d p A
 
 -- A settlement after level d + 3 lost under the play p, from the tests A to the tests B: level d + 1's test alone changes, and only by failing more often.
 -- It fails at the present play of the blocks up to level d + 1. Where else it fails anew, the present play of level d + 2 after it refutes level d + 3 for every setting.

@@ -3,7 +3,7 @@ ghost use Rattle.game.specs.Prefix.{Last-level};
 ghost use Rattle.game.specs.Game.{Same-game};
 ghost use Rattle.game.specs.Strategy.{Positions-decided, Strategies-decide, Openings-decided};
 ghost use Rattle.game.specs.Claims.{Refutations-sound, Verdicts-right, Openings-win, Turns-counted, Turns-bounded, Turns-left, Bound-met, Grants-suffice};
-ghost use Rattle.game.specs.Claims.{Turns-paid, Plays-pass, Rules-kept, Never-stuck, Always-settles, Verdicts-exist};
+ghost use Rattle.game.specs.Claims.{Turns-paid, Plays-pass, Rules-kept, Never-stuck, Always-settles, Verdicts-exist, Any-allows};
 
 // The level past the last block: no variables, and the other player's.
 pub fn last_level() -> u8
@@ -82,7 +82,7 @@ pub fn turns_left() -> u8
     0
 }
 
-// With one block that its owner wins, 3 S + 2 turns are taken.
+// The bound is met, with one block that its owner wins.
 pub fn bound_met() -> u8
     ensures { λ _. ⌜ Bound-met ⌝ }
 {
@@ -134,6 +134,13 @@ pub fn always_settles() -> u8
 // Some run reaches a verdict.
 pub fn verdicts_exist() -> u8
     ensures { λ _. ⌜ Verdicts-exist ⌝ }
+{
+    0
+}
+
+// Where no further rule is set, the conditions on rules hold.
+pub fn any_allows() -> u8
+    ensures { λ _. ⌜ Any-allows ⌝ }
 {
     0
 }
