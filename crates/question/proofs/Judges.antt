@@ -22,6 +22,7 @@ use Rattle.question.specs.Rules.{word, kind-of, limit, rules, first, record-at
 use Rattle.question.specs.Judging.{pair-of, bytes-of, Front, after, judged, judgement, Right}
 use Rattle.question.proofs.Steps.{Reads, block-step, gate-step, output-step}
 use Rattle.question.proofs.Goods.{good-block, good-gate}
+use Rattle.question.proofs.Never.{impossible}
 
 -- after these blocks and n gates, at a place of the bytes: what is before it are good records, and what is left gives the same judgement
 pub record SoFar (bytes : List ℕ) (bs : List Block) (n at : ℕ) : Type 0 where
@@ -60,7 +61,7 @@ begin bytes =
     }
 
 unless-err : {X : Type 0} (o : Option Refusal) (x : X) (why : Refusal) → unless o x ≡ Err why → o ≡ Some why
-unless-err None x why h = let z : _≡_ {A = ℕ} 0 1 = cc in absurd (let no : ⊥ = omega arith in no)
+unless-err None x why h = impossible (cc)
 unless-err (Some r) x why h = cc
 
 joined-push : {X : Type 0} (f : X → List ℕ) (xs : List X) (x : X) → joined f xs ++ f x ≡ joined f (xs ++ x ∷ [])

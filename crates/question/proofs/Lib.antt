@@ -1,3 +1,4 @@
+pub mod Never
 pub mod Totals
 pub mod Steps
 pub mod Goods

@@ -28,6 +28,7 @@ use Rattle.question.specs.Blocks.{block-at, total}
 use Rattle.question.specs.Formula.{two, byte-of, block-bytes, gate-bytes, output-bytes}
 use Rattle.question.specs.Rules.{word, kind-of, body, misplaced, outside, quantifier-of, same, repeats, limit, content-rules, kind-rules, rules, first, record-of, record-at, unless, next}
 use Rattle.question.specs.Judging.{pair-of, bytes-of}
+use Rattle.question.proofs.Never.{impossible}
 
 -- a block that may follow others
 pub record Admits (bs : List Block) (b : Block) : Type 0 where
@@ -52,15 +53,15 @@ pub record Ends (bs : List Block) (n l : ℕ) (rest : List ℕ) : Type 0 where
 
 unless-ok : {X : Type 0} (o : Option Refusal) (x y : X) → unless o x ≡ Ok y → (o ≡ None) × (x ≡ y)
 unless-ok None x y h = (refl, cc)
-unless-ok (Some why) x y h = let z : _≡_ {A = ℕ} 0 1 = cc in absurd (let no : ⊥ = omega arith in no)
+unless-ok (Some why) x y h = impossible (cc)
 
 first-none : (why : Refusal) (b : Bool) (rs : List (Refusal × Bool)) → first ((why, b) ∷ rs) ≡ None → (b ≡ false) × (first rs ≡ None)
 first-none why false rs h = (refl, h)
-first-none why true rs h = let z : _≡_ {A = ℕ} 0 1 = cc in absurd (let no : ⊥ = omega arith in no)
+first-none why true rs h = impossible (cc)
 
 pub first-later : (why : Refusal) (b : Bool) (rs : List (Refusal × Bool)) → b ≡ false → first rs ≡ None → first ((why, b) ∷ rs) ≡ None
 first-later why false rs e h = h
-first-later why true rs e h = let z : _≡_ {A = ℕ} 0 1 = cc in absurd (let no : ⊥ = omega arith in no)
+first-later why true rs e h = impossible (cc)
 
 -- a record in its place that breaks no rule
 pub record Placed (bs : List Block) (n : ℕ) (rest : List ℕ) (k : Kind) : Type 0 where
@@ -72,7 +73,7 @@ pub record Placed (bs : List Block) (n : ℕ) (rest : List ℕ) (k : Kind) : Typ
 module _ (bs : List Block) (n : ℕ) (rest : List ℕ) where
   placed-by : (o : Option Kind) → kind-of (word rest 2) (word rest 0) ≡ o → first (kind-rules o bs n rest) ≡ None →
       (k : Kind) × (o ≡ Some k) × Placed bs n rest k
-  placed-by None e h = let z : _≡_ {A = ℕ} 0 1 = cc in absurd (let no : ⊥ = omega arith in no)
+  placed-by None e h = impossible (cc)
   placed-by (Some k) e h =
       let a = first-none Misplaced (misplaced k bs n) ((Incomplete, ltb (length rest) (4 + body k)) ∷ content-rules k bs n rest) h in
       let b = first-none Incomplete (ltb (length rest) (4 + body k)) (content-rules k bs n rest) (a .1) in
@@ -114,10 +115,10 @@ inside bs byte b h a =
     (or-from _ _ (le-ltb 40 (b .size) (a .few)) (or-from _ _ (le-ltb 128 (total bs + b .size) (a .small)) (le-ltb 15 (length bs) (omega (arith, a .room))))))
 
 same-false : (p q : Quantifier) → same p q ≡ false → p ≢ q
-same-false Existential Existential h = λ e. let z : _≡_ {A = ℕ} 0 1 = cc in omega arith
-same-false Existential Universal h = λ e. let z : _≡_ {A = ℕ} 0 1 = cc in omega arith
-same-false Universal Existential h = λ e. let z : _≡_ {A = ℕ} 0 1 = cc in omega arith
-same-false Universal Universal h = λ e. let z : _≡_ {A = ℕ} 0 1 = cc in omega arith
+same-false Existential Existential h = λ e. impossible (cc)
+same-false Existential Universal h = λ e. impossible (cc)
+same-false Universal Existential h = λ e. impossible (cc)
+same-false Universal Universal h = λ e. impossible (cc)
 
 differ : (p q : Quantifier) → p ≢ q → same p q ≡ false
 differ Existential Existential h = absurd (h refl)
@@ -152,8 +153,8 @@ module _ (bs : List Block) (n : ℕ) (rest : List ℕ) where
           differs = λ some. subst (λ q. block-at bs (length bs - 1) .quantifier ≢ q) quantifiers (repeats-false bs (quantifier-of byte) (r .0) some);
         },
       )
-  block-from b kind.Gate p e = let z : _≡_ {A = ℕ} 0 1 = cc in absurd (let no : ⊥ = omega arith in no)
-  block-from b kind.Output p e = let z : _≡_ {A = ℕ} 0 1 = cc in absurd (let no : ⊥ = omega arith in no)
+  block-from b kind.Gate p e = impossible (cc)
+  block-from b kind.Output p e = impossible (cc)
 
   pub block-step : (b : Block) → next bs n rest ≡ Ok (block b) → (n ≡ 0) × Admits bs b
   block-step b h = let p = placed bs n rest (block b) h in block-from b (p .0) (p .1) (p .2)
@@ -172,8 +173,8 @@ module _ (bs : List Block) (n : ℕ) (rest : List ℕ) where
         left = rw left (ltb-true _ _ (not-false _ (q .0)));
         right = rw right (ltb-true _ _ (not-false _ (q .1)));
       }
-  gate-from l r kind.Block p e = let z : _≡_ {A = ℕ} 0 1 = cc in absurd (let no : ⊥ = omega arith in no)
-  gate-from l r kind.Output p e = let z : _≡_ {A = ℕ} 0 1 = cc in absurd (let no : ⊥ = omega arith in no)
+  gate-from l r kind.Block p e = impossible (cc)
+  gate-from l r kind.Output p e = impossible (cc)
 
   pub gate-step : (l r : Literal) → next bs n rest ≡ Ok (gate l r) → Reads bs n (l .code) (r .code)
   gate-step l r h = let p = placed bs n rest (gate l r) h in gate-from l r (p .0) (p .1) (p .2)
@@ -188,8 +189,8 @@ module _ (bs : List Block) (n : ℕ) (rest : List ℕ) where
         literal = rw literal (ltb-true _ _ (not-false _ (o .0)));
         last = omega (arith, p .whole, ltb-false 6 (length rest) (first-none Misplaced (ltb 6 (length rest)) [] (o .1) .0));
       }
-  output-from l kind.Block p e = let z : _≡_ {A = ℕ} 0 1 = cc in absurd (let no : ⊥ = omega arith in no)
-  output-from l kind.Gate p e = let z : _≡_ {A = ℕ} 0 1 = cc in absurd (let no : ⊥ = omega arith in no)
+  output-from l kind.Block p e = impossible (cc)
+  output-from l kind.Gate p e = impossible (cc)
 
   pub output-step : (l : Literal) → next bs n rest ≡ Ok (output l) → Ends bs n (l .code) rest
   output-step l h = let p = placed bs n rest (output l) h in output-from l (p .0) (p .1) (p .2)
