@@ -1,0 +1,6 @@
+pub mod Order
+pub mod Nodes
+pub mod Computed
+pub mod Witness
+pub mod Swept
+pub mod Cut
