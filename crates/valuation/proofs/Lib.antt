@@ -4,3 +4,5 @@ pub mod Computed
 pub mod Witness
 pub mod Swept
 pub mod Cut
+pub mod Masks
+pub mod Walked
