@@ -107,9 +107,18 @@ pub impl Kind for Wide as Sixtyfour {
 
     fn constant(value: Value) -> Wide {
         match value {
-            Value::Unknown => Wide { trues: 0, falses: 0 },
-            Value::False => Wide { trues: 0, falses: Wide::ALL },
-            Value::True => Wide { trues: Wide::ALL, falses: 0 },
+            Value::Unknown => Wide {
+                trues: 0,
+                falses: 0,
+            },
+            Value::False => Wide {
+                trues: 0,
+                falses: Wide::ALL,
+            },
+            Value::True => Wide {
+                trues: Wide::ALL,
+                falses: 0,
+            },
         }
     }
 

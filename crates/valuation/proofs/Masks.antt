@@ -9,8 +9,8 @@ use lib.Dec.{eqb}
 use Rattle.std.proofs.shelf.Bits.{mod-below}
 use Rattle.std.proofs.shelf.Ways.{decides-below-and}
 use Rattle.valuation.specs.declared.Value.the-variants.{Unknown}
-use Rattle.valuation.specs.Three.{not3, and3, of-bool}
-use Rattle.valuation.specs.Rails.{on, of-rails, is-false}
+use Rattle.valuation.specs.Three.{and3, of-bool}
+use Rattle.valuation.specs.Rails.{on, of-rails}
 
 -- an operation that works on each digit, and what it does to one
 module _ (op : ℕ → ℕ → ℕ) (p : Bool → Bool → Bool)

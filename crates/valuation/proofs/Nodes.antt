@@ -2,11 +2,11 @@
 use mathlib.Core.Path.{_≡_, refl, ap, ap₂, subst, sym, _∙_}
 use mathlib.Core.Logic.{_≢_, _⊎_, inl, inr}
 use mathlib.Core.List.{List, _++_}
-use Prim.Native.Nat.{ℕ, zero, suc, _+_, _-_, _*_, _/_, _<_}
+use Prim.Native.Nat.{ℕ, zero, suc, min, _+_, _-_, _*_, _/_, _<_}
 use native.Mathlib.Omega.{arith}
 use native.Mathlib.Decide.{ℕ-discrete}
-use lib.ListN.{length, length-append}
-use Rattle.std.proofs.shelf.Lists.{getD-append-left}
+use lib.ListN.{length, take, length-append, length-take}
+use Rattle.std.proofs.shelf.Lists.{getD-append-left, getD-take}
 use Rattle.std.proofs.shelf.Tests.{cases-lt}
 use Rattle.valuation.specs.declared.Value.{Value}
 use Rattle.valuation.specs.declared.Value.the-variants.{Unknown}
@@ -28,6 +28,11 @@ module _ (first : ℕ) (gs : List Pair) where
 
     pub nodes : (n : ℕ) → n < first + length gs → P n
     nodes n h = up-to (suc n) n (omega arith) h
+
+pub ascending-take : (first n : ℕ) (gs : List Pair) → Ascending first gs → Ascending first (take n gs)
+ascending-take first n gs asc k h =
+    let i : k < min n (length gs) = rw length-take at h in
+    rw (getD-take n gs k blank (let j : k < n = omega arith in j)) (asc k (omega arith))
 
 pub half : (l n : ℕ) → l < 2 * n → l / 2 < n
 half l n h = omega arith

@@ -1,4 +1,4 @@
-use mathlib.Core.Path.{_≡_, sym, ap, ap₂, _∙_}
+use mathlib.Core.Path.{sym, ap, ap₂, _∙_}
 use Rattle.valuation.specs.Rails.{on, of-rails}
 use Rattle.valuation.proofs.Masks.{on-none, on-all}
 use Rattle.circuit.proofs.kinds.Sixtyfour.constant.Needs as need
