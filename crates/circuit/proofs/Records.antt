@@ -1,11 +1,15 @@
 -- Gates as records and as pairs of literals.
-use mathlib.Core.Path.{_≡_, sym, ap}
-use mathlib.Core.List.{List}
-use Prim.Native.Nat.{ℕ, _+_, _*_, _<_}
+use mathlib.Core.Path.{_≡_, sym, ap, ap₂, subst, _∙_}
+use mathlib.Core.Bool.{Bool, true, false}
+use mathlib.Core.List.{List, _++_}
+use Prim.Native.Nat.{ℕ, _+_, _*_, _/_, _<_, _≤_}
 use native.Mathlib.Omega.{arith}
-use lib.ListN.{length, getD, take}
+use lib.ListN.{length, getD, set, take, drop}
 use Rattle.std.proofs.shelf.Lists.{getD-map, length-map, take-map}
-use Rattle.valuation.specs.Circuit.{blank, gate, Ascending}
+use Rattle.valuation.specs.Circuit.{blank, gate, Ascending, Values}
+use Rattle.valuation.specs.Sweep.{marked, sweep}
+use Rattle.valuation.specs.Reach.{inputs-of, leads, reach}
+use Rattle.valuation.proofs.Reaching.{sweep-reach}
 use Rattle.circuit.specs.Gates.{pair, pairs}
 use Rattle.circuit.specs.declared.Gate.{Gate}
 
@@ -25,3 +29,18 @@ reads-below gs first k n d asc h e =
 
 pub pairs-take : (n : ℕ) (gs : List Gate) → pairs (take n gs) ≡ take n (pairs gs)
 pairs-take n gs = sym (take-map pair n gs)
+
+-- marks at the nodes of gate k's literals
+pub inputs-marked : (gs : List Gate) (k : ℕ) (d : Gate) (ms : List Bool) (a b l r : ℕ) → k < length gs →
+    a ≡ l / 2 → l ≡ pair (getD gs k d) .left → b ≡ r / 2 → r ≡ pair (getD gs k d) .right → set (set ms a true) b true ≡ marked (inputs-of (gate (pairs gs) k)) ms
+inputs-marked gs k d ms a b l r h ea el eb er =
+    ap₂ (λ m n. set (set ms m true) n true) (ea ∙ ap (λ x. x / 2) (el ∙ ap (λ q. q .left) (sym (pair-at gs k d h)))) (eb ∙ ap (λ x. x / 2) (er ∙ ap (λ q. q .right) (sym (pair-at gs k d h))))
+
+-- the sweep from the root's node down, from clear marks
+pub reach-marked : (first : ℕ) (gs : List Gate) (v : Values) (ms : List Bool) (root n : ℕ) → Ascending first (pairs gs) → root < first + length gs → first + length gs ≤ length ms →
+    ((i : ℕ) → i < first + length gs → getD ms i false ≡ false) → root < n → first ≤ n → n ≤ first + length gs →
+    sweep (leads first (pairs gs) v) n (set ms root true) ≡ reach first (pairs gs) v root ++ drop (first + length gs) ms
+reach-marked first gs v ms root n asc =
+    subst (λ s. root < first + s → first + s ≤ length ms → ((i : ℕ) → i < first + s → getD ms i false ≡ false) → root < n → first ≤ n → n ≤ first + s →
+    sweep (leads first (pairs gs) v) n (set ms root true) ≡ reach first (pairs gs) v root ++ drop (first + s) ms)
+    (length-pairs gs) (sweep-reach first (pairs gs) v ms root n asc)

@@ -6,6 +6,7 @@ ghost use Rattle.valuation.specs.Circuit.{Pair};
 ghost use Rattle.circuit.specs.Gates.{pair};
 
 pub mod kinds;
+pub mod reaching;
 pub mod walking;
 
 // A literal: twice its node, and one more where it is negated.

@@ -58,7 +58,7 @@ pub fn walk<K: Kind>(gates: &[Gate], forced: &[Value], first: usize, values: &mu
 }
 
 // How many gates there are up to the literal's node.
-fn gates_up_to(literal: Literal, first: usize) -> usize
+pub(super) fn gates_up_to(literal: Literal, first: usize) -> usize
     ensures { λ r. ⌜ r ≡ literal .code / 2 + 1 - first ⌝ }
 {
     (literal.node() + 1).saturating_sub(first)

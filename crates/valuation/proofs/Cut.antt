@@ -26,7 +26,7 @@ if-unknown-in True ns j m = absurd m
 
 module _ (first : ℕ) (gs : List Pair) (v : Values) where
   -- what a node leads to are the two inputs of an unknown gate
-  leads-in : (n j : ℕ) → In j (leads first gs v n) → (first ≤ n) × (v n ≡ Unknown) × ((j ≡ gate gs (n - first) .left / 2) ⊎ (j ≡ gate gs (n - first) .right / 2))
+  pub leads-in : (n j : ℕ) → In j (leads first gs v n) → (first ≤ n) × (v n ≡ Unknown) × ((j ≡ gate gs (n - first) .left / 2) ⊎ (j ≡ gate gs (n - first) .right / 2))
   leads-in n j = pick (ltb n first) refl
     where
       pick : (b : Bool) → ltb n first ≡ b → In j (cond b [] (if-unknown (v n) (inputs-of (gate gs (n - first))))) →
@@ -34,10 +34,13 @@ module _ (first : ℕ) (gs : List Pair) (v : Values) where
       pick true e m = absurd m
       pick false e m = let r = if-unknown-in (v n) _ j m in (ltb-false n first e, r .0, elim (r .1) [ inl q ↦ inl q | inr q ↦ elim q [ inl s ↦ inr s | inr s ↦ absurd s ] ])
 
+  pub leads-gate : (k : ℕ) → leads first gs v (first + k) ≡ if-unknown (v (first + k)) (inputs-of (gate gs k))
+  leads-gate k =
+      ap (λ b. cond b [] (if-unknown (v (first + k)) (inputs-of (gate gs (first + k - first))))) (le-ltb (first + k) first (omega arith))
+      ∙ ap (λ m. if-unknown (v (first + k)) (inputs-of (gate gs m))) (omega arith)
+
   leads-at : (k : ℕ) → v (first + k) ≡ Unknown → leads first gs v (first + k) ≡ inputs-of (gate gs k)
-  leads-at k u =
-      ap₂ (λ b x. cond b [] (if-unknown x (inputs-of (gate gs (first + k - first))))) (le-ltb (first + k) first (omega arith)) u
-      ∙ ap (λ m. inputs-of (gate gs m)) (omega arith)
+  leads-at k u = leads-gate k ∙ ap (λ x. if-unknown x (inputs-of (gate gs k))) u
 
   module _ (asc : Ascending first gs) (pos : 0 < first) where
     low : (k : ℕ) → (gate gs k .left < 2 * (first + k)) × (gate gs k .right < 2 * (first + k))

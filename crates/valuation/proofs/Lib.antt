@@ -5,4 +5,5 @@ pub mod Witness
 pub mod Swept
 pub mod Cut
 pub mod Masks
+pub mod Reaching
 pub mod Walked

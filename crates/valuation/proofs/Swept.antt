@@ -50,14 +50,15 @@ marked-only (j ∷ js) ms i h =
       | inr m ↦ inr (inr m)
     ]
 
-module _ (next : ℕ → List ℕ) (down : (i j : ℕ) → In j (next i) → j < i) where
-  length-one : (i : ℕ) (ms : List Bool) → length (cond (getD ms i false) (marked (next i) ms) ms) ≡ length ms
-  length-one i ms =
-      elim (cases-bool (getD ms i false)) [
-        | inl e ↦ rw e (length-marked (next i) ms)
-        | inr e ↦ rw e refl
-      ]
+-- one place done
+pub length-one : (next : ℕ → List ℕ) (i : ℕ) (ms : List Bool) → length (cond (getD ms i false) (marked (next i) ms) ms) ≡ length ms
+length-one next i ms =
+    elim (cases-bool (getD ms i false)) [
+      | inl e ↦ rw e (length-marked (next i) ms)
+      | inr e ↦ rw e refl
+    ]
 
+module _ (next : ℕ → List ℕ) (down : (i j : ℕ) → In j (next i) → j < i) where
   one-keeps : (i k : ℕ) (ms : List Bool) → i < length ms → on ms k → on (cond (getD ms i false) (marked (next i) ms) ms) k
   one-keeps i k ms l h =
       elim (cases-bool (getD ms i false)) [
@@ -75,11 +76,11 @@ module _ (next : ℕ → List ℕ) (down : (i j : ℕ) → In j (next i) → j <
 
   length-sweep : (n : ℕ) (ms : List Bool) → length (sweep next n ms) ≡ length ms
   length-sweep zero ms = refl
-  length-sweep (suc i) ms = length-sweep i _ ∙ length-one i ms
+  length-sweep (suc i) ms = length-sweep i _ ∙ length-one next i ms
 
   sweep-keeps : (n k : ℕ) (ms : List Bool) → n ≤ length ms → on ms k → on (sweep next n ms) k
   sweep-keeps zero k ms l h = h
-  sweep-keeps (suc i) k ms l h = sweep-keeps i k _ (omega (arith, length-one i ms)) (one-keeps i k ms (omega arith) h)
+  sweep-keeps (suc i) k ms l h = sweep-keeps i k _ (omega (arith, length-one next i ms)) (one-keeps i k ms (omega arith) h)
 
   -- no place that is done gets a mark later
   sweep-done : (n k : ℕ) (ms : List Bool) → n ≤ suc k → on (sweep next n ms) k → on ms k
@@ -94,8 +95,8 @@ module _ (next : ℕ → List ℕ) (down : (i j : ℕ) → In j (next i) → j <
   sweep-closed zero i j ms l b m h = absurd (omega arith)
   sweep-closed (suc n) i j ms l b m h =
       elim (ℕ-discrete i n) [
-        | yes e ↦ sweep-keeps n j _ (omega (arith, length-one n ms)) (leads (rw e at m) (sweep-done (suc n) n ms (omega arith) (rw e at h)))
-        | no e ↦ sweep-closed n i j _ (omega (arith, length-one n ms)) (omega arith) m h
+        | yes e ↦ sweep-keeps n j _ (omega (arith, length-one next n ms)) (leads (rw e at m) (sweep-done (suc n) n ms (omega arith) (rw e at h)))
+        | no e ↦ sweep-closed n i j _ (omega (arith, length-one next n ms)) (omega arith) m h
       ]
     where
       leads : In j (next n) → on ms n → on (cond (getD ms n false) (marked (next n) ms) ms) j

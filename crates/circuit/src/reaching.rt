@@ -1,0 +1,42 @@
+// Reaching: the root's node is reached, and so are the inputs of a reached gate whose value is unknown.
+//
+// Callers are proved to meet what is required, and no test of it is run.
+ghost use mathlib.Core.Bool.{false};
+ghost use mathlib.Core.List.{_++_};
+ghost use mathlib.Core.Path.{_≡_};
+ghost use Prim.Native.Nat.{ℕ, _+_, _/_, _<_, _≤_};
+ghost use lib.ListN.{length, getD, drop};
+ghost use Rattle.circuit.specs.Gates.{pairs};
+ghost use Rattle.valuation.specs.Circuit.{Ascending, reads};
+ghost use Rattle.valuation.specs.Reach.{reach};
+use super::Gate;
+use super::Literal;
+use super::walking::gates_up_to;
+use valuation::Value;
+use valuation::ValuePartialEq;
+
+// Marks the nodes that are reached from the root, by one pass from its node down. No node is marked beforehand.
+pub fn mark_reached(
+    gates: &[Gate],
+    values: &[Value],
+    first: usize,
+    root: Literal,
+    marks: &mut [bool],
+)
+    requires ascending { ⌜ Ascending first (pairs (now gates)) ⌝ }
+    requires values { ⌜ first + length (now gates) ≤ length (now values) ⌝ }
+    requires inside { ⌜ root .code / 2 < first + length (now gates) ⌝ }
+    requires marks { ⌜ first + length (now gates) ≤ length (now marks) ⌝ }
+    requires clear { ⌜ ((n : ℕ) → n < first + length (now gates) → getD (now marks) n false ≡ false) ⌝ }
+    ensures { λ _. ⌜ now (marks .exit) ≡ reach first (pairs (now (gates .entry))) (reads (now (values .entry))) (root .code / 2) ++ drop (first + length (now (gates .entry))) (now (marks .entry)) ⌝ }
+{
+    marks[root.node()] = true;
+    for k in (0..gates_up_to(root, first)).rev() {
+        let node = first + k;
+        if marks[node] && values[node] == Value::Unknown {
+            let gate = gates[k];
+            marks[gate.left().node()] = true;
+            marks[gate.right().node()] = true;
+        }
+    }
+}
