@@ -24,9 +24,9 @@ pub fn mark_reached(
     marks: &mut [bool],
 )
     requires ascending { ⌜ Ascending first (pairs (now gates)) ⌝ }
-    requires values { ⌜ first + length (now gates) ≤ length (now values) ⌝ }
+    requires covered { ⌜ first + length (now gates) ≤ length (now values) ⌝ }
     requires inside { ⌜ root .code / 2 < first + length (now gates) ⌝ }
-    requires marks { ⌜ first + length (now gates) ≤ length (now marks) ⌝ }
+    requires room { ⌜ first + length (now gates) ≤ length (now marks) ⌝ }
     requires clear { ⌜ ((n : ℕ) → n < first + length (now gates) → getD (now marks) n false ≡ false) ⌝ }
     ensures { λ _. ⌜ now (marks .exit) ≡ reach first (pairs (now (gates .entry))) (reads (now (values .entry))) (root .code / 2) ++ drop (first + length (now (gates .entry))) (now (marks .entry)) ⌝ }
 {

@@ -5,7 +5,9 @@ use mathlib.Core.List.{List, [], _∷_, _++_, map}
 use Prim.Native.Nat.{ℕ, _+_, _/_, _<_, _≤_}
 use native.Mathlib.Omega.{arith}
 use lib.ListN.{length, getD, take, drop, set}
-use Rattle.std.proofs.shelf.Lists.{getD-map, length-map, length-take-le, take-more-set, map-push, getD-take, take-take, take-map, at-drop-more, at-drop-all}
+use Rattle.std.proofs.shelf.Lists.{getD-map, length-map, length-take-le, take-more-set, map-push, getD-take, take-all, take-take, take-map, at-drop-more, at-drop-all}
+use Rattle.std.specs.Iters.{counting}
+use Rattle.std.proofs.shelf.Counted.{map-counting-more}
 use Rattle.valuation.specs.declared.Value.{Value}
 use Rattle.valuation.specs.declared.Value.the-variants.{Unknown}
 use Rattle.valuation.specs.Three.{orElse}
@@ -16,6 +18,14 @@ module _ {X : Type 0} (f : X → Value) where
   -- what is read at a node means what the node's value means
   pub read-means : (xs : List X) (n : ℕ) (x : X) → n < length xs → x ≡ getD xs n x → reads (map f xs) n ≡ f x
   read-means xs n x within read = getD-map f xs n x Unknown within ∙ ap f (sym read)
+
+  -- a list of which element k means g k
+  pub filled-more : (g : ℕ → Value) (xs : List X) (k : ℕ) (x : X) → k < length xs → f x ≡ g k → map f (take k xs) ≡ map g (counting 0 k) → map f (take (k + 1) (set xs k x)) ≡ map g (counting 0 (k + 1))
+  filled-more g xs k x within value before =
+      ap (map f) (take-more-set xs k x within) ∙ map-push f (take k xs) x ∙ ap₂ (λ us u. us ++ (u ∷ [])) before value ∙ sym (map-counting-more g 0 k k (omega arith))
+
+  pub filled-all : (g : ℕ → Value) (xs : List X) (k n : ℕ) → length xs ≤ k → n ≡ k → map f (take k xs) ≡ map g (counting 0 k) → map f xs ≡ map g (counting 0 n)
+  filled-all g xs k n done e before = sym (ap (map f) (take-all k xs done)) ∙ before ∙ ap (λ m. map g (counting 0 m)) (sym e)
 
   pub literal-means : (xs : List X) (l n : ℕ) (x : X) (neg : Bool) → n ≡ l / 2 → n < length xs → x ≡ getD xs n x → neg ≡ negated l → signed neg (f x) ≡ lit (reads (map f xs)) l
   literal-means xs l n x neg e within read s = ap₂ signed s (sym (read-means xs n x within read) ∙ ap (reads (map f xs)) e)

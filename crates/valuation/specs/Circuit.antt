@@ -3,12 +3,12 @@
 use mathlib.Core.Path.{_≡_}
 use mathlib.Core.Bool.{Bool, cond}
 use mathlib.Core.List.{List, [], _∷_, _++_, map}
-use Prim.Native.Nat.{ℕ, _+_, _*_, _/_, _%_, _<_}
-use lib.Dec.{eqb}
+use Prim.Native.Nat.{ℕ, _+_, _-_, _*_, _/_, _%_, _<_}
+use lib.Dec.{eqb, ltb}
 use lib.ListN.{length, getD}
 use Rattle.std.specs.Iters.{counting}
 use Rattle.valuation.specs.declared.Value.{Value}
-use Rattle.valuation.specs.declared.Value.the-variants.{Unknown}
+use Rattle.valuation.specs.declared.Value.the-variants.{Unknown, False}
 use Rattle.valuation.specs.Three.{not3, and3, orElse}
 
 -- the two literals of a gate, which is their and
@@ -69,6 +69,10 @@ values-of (g ∷ gs) forced vs = values-of gs forced (vs ++ (orElse (forced (len
 -- the values of the inputs
 abbrev pub input-values : ℕ → Values → Values → List Value
 input-values first forced base = map (λ n. orElse (forced n) (base n)) (counting 0 first)
+
+-- settings of the inputs: node 0 is false, the nodes from `start` on are set by a list, and no other is set
+abbrev pub settings-from : ℕ → List Value → Values
+settings-from start ss n = cond (eqb n 0) False (cond (ltb n start) Unknown (reads ss (n - start)))
 
 -- the values of all nodes
 abbrev pub node-values : ℕ → List Pair → Values → Values → List Value

@@ -27,6 +27,10 @@ leads first gs v n = cond (ltb n first) [] (if-unknown (v n) (inputs-of (gate gs
 abbrev pub reach : ℕ → List Pair → Values → ℕ → List Bool
 reach first gs v root = swept (leads first gs v) (first + length gs) (root ∷ [])
 
--- the reached nodes that are known, but for node 0, with their values
+-- the values of the marked nodes, but for node 0
+abbrev pub where-marked : List Bool → Values → Values
+where-marked ms v n = cond (eqb n 0) Unknown (cond (getD ms n false) (v n) Unknown)
+
+-- what is forced of the values v: the reached nodes that are known, but for node 0
 abbrev pub cut : ℕ → List Pair → Values → ℕ → Values
-cut first gs v root n = cond (eqb n 0) Unknown (cond (getD (reach first gs v root) n false) (v n) Unknown)
+cut first gs v root = where-marked (reach first gs v root) v

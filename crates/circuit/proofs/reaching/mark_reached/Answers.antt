@@ -60,4 +60,4 @@ returns c =
     ∙ c .loop-k .inv .1
     ∙ ap (λ r. sweep L (c .args .first + c .gates-up-to-k .result) (set (c .args .marks .now) r true)) (c .node .ensures)
     ∙ reach-marked (c .args .first) (c .args .gates .now) (reads (c .args .values .now)) (c .args .marks .now) (c .args .root .code / 2) (c .args .first + c .gates-up-to-k .result)
-    (c .pre .ascending) (c .pre .inside) (c .pre .marks) (c .pre .clear) (omega arith) (omega arith) (omega arith)
+    (c .pre .ascending) (c .pre .inside) (c .pre .room) (c .pre .clear) (omega arith) (omega arith) (omega arith)

@@ -12,8 +12,8 @@ use Rattle.circuit.proofs.walking.evaluate.Needs as need
 pub walk-requires : need.walk-requires
 walk-requires g c κs = record {
   ascending = subst (Ascending (c .args .first)) (sym (pairs-take _ (c .args .gates .now))) (ascending-take (c .args .first) _ _ (c .pre .ascending));
-  forced = simp length-take (omega arith);
-  values = simp length-take (omega arith);
+  covered = simp length-take (omega arith);
+  room = simp length-take (omega arith);
 }
 
 pub returns : need.returns
