@@ -2,13 +2,14 @@
 //
 // Callers are proved to meet what is required, and no test of it is run.
 ghost use mathlib.Core.Bool.{false};
-ghost use mathlib.Core.List.{_++_};
+ghost use mathlib.Core.List.{map, _++_};
 ghost use mathlib.Core.Path.{_≡_};
 ghost use Prim.Native.Nat.{ℕ, _+_, _/_, _<_, _≤_};
-ghost use lib.ListN.{length, getD, drop};
+ghost use lib.ListN.{length, getD, drop, replicate};
 ghost use Rattle.circuit.specs.Gates.{pairs};
 ghost use Rattle.valuation.specs.Circuit.{Ascending, reads};
-ghost use Rattle.valuation.specs.Reach.{reach};
+ghost use Rattle.valuation.specs.Reach.{reach, where-marked};
+ghost use Rattle.std.specs.Iters.{counting};
 use super::Gate;
 use super::Literal;
 use super::walking::gates_up_to;
@@ -38,5 +39,22 @@ pub fn mark_reached(
             marks[gate.left().node()] = true;
             marks[gate.right().node()] = true;
         }
+    }
+}
+
+// Forces the marked nodes that are known, but for node 0, and no other, and takes the marks away.
+pub fn force_marked(values: &[Value], marks: &mut [bool], forced: &mut [Value])
+    requires covered { ⌜ length (now marks) ≤ length (now values) ⌝ }
+    requires room { ⌜ length (now forced) ≡ length (now marks) ⌝ }
+    ensures forced { λ _. ⌜ now (forced .exit) ≡ map (where-marked (now (marks .entry)) (reads (now (values .entry)))) (counting 0 (length (now (marks .entry)))) ⌝ }
+    ensures clear { λ _. ⌜ now (marks .exit) ≡ replicate (length (now (marks .entry))) false ⌝ }
+{
+    for node in 0..marks.len() {
+        forced[node] = if marks[node] && node > 0 {
+            values[node]
+        } else {
+            Value::Unknown
+        };
+        marks[node] = false;
     }
 }
