@@ -1,14 +1,14 @@
 -- Gates as records and as pairs of literals.
-use mathlib.Core.Path.{_≡_, sym, ap, ap₂, subst, _∙_}
+use mathlib.Core.Path.{_≡_, sym, ap, subst}
 use mathlib.Core.Bool.{Bool, true, false}
 use mathlib.Core.List.{List, _++_}
-use Prim.Native.Nat.{ℕ, _+_, _*_, _/_, _<_, _≤_}
+use Prim.Native.Nat.{ℕ, _+_, _*_, _<_, _≤_}
 use native.Mathlib.Omega.{arith}
 use lib.ListN.{length, getD, set, take, drop}
 use Rattle.std.proofs.shelf.Lists.{getD-map, length-map, take-map}
 use Rattle.valuation.specs.Circuit.{blank, gate, Ascending, Values}
-use Rattle.valuation.specs.Sweep.{marked, sweep}
-use Rattle.valuation.specs.Reach.{inputs-of, leads, reach}
+use Rattle.valuation.specs.Sweep.{sweep}
+use Rattle.valuation.specs.Reach.{leads, reach}
 use Rattle.valuation.proofs.Reaching.{sweep-reach}
 use Rattle.circuit.specs.Gates.{pair, pairs}
 use Rattle.circuit.specs.declared.Gate.{Gate}
@@ -19,8 +19,8 @@ length-pairs gs = length-map gs pair
 pub pair-at : (gs : List Gate) (k : ℕ) (d : Gate) → k < length gs → gate (pairs gs) k ≡ pair (getD gs k d)
 pair-at gs k d h = getD-map pair gs k d blank h
 
--- the literals of gate k are below twice its node
-pub reads-below : (gs : List Gate) (first k n : ℕ) (d : Gate) → Ascending first (pairs gs) → k < length gs → n ≡ first + k →
+-- the literals of gate k are below twice any number from its node on
+pub reads-below : (gs : List Gate) (first k n : ℕ) (d : Gate) → Ascending first (pairs gs) → k < length gs → first + k ≤ n →
     (pair (getD gs k d) .left < 2 * n) × (pair (getD gs k d) .right < 2 * n)
 reads-below gs first k n d asc h e =
     let a = asc k (omega (arith, length-pairs gs)) in
@@ -29,12 +29,6 @@ reads-below gs first k n d asc h e =
 
 pub pairs-take : (n : ℕ) (gs : List Gate) → pairs (take n gs) ≡ take n (pairs gs)
 pairs-take n gs = sym (take-map pair n gs)
-
--- marks at the nodes of gate k's literals
-pub inputs-marked : (gs : List Gate) (k : ℕ) (d : Gate) (ms : List Bool) (a b l r : ℕ) → k < length gs →
-    a ≡ l / 2 → l ≡ pair (getD gs k d) .left → b ≡ r / 2 → r ≡ pair (getD gs k d) .right → set (set ms a true) b true ≡ marked (inputs-of (gate (pairs gs) k)) ms
-inputs-marked gs k d ms a b l r h ea el eb er =
-    ap₂ (λ m n. set (set ms m true) n true) (ea ∙ ap (λ x. x / 2) (el ∙ ap (λ q. q .left) (sym (pair-at gs k d h)))) (eb ∙ ap (λ x. x / 2) (er ∙ ap (λ q. q .right) (sym (pair-at gs k d h))))
 
 -- the sweep from the root's node down, from clear marks
 pub reach-marked : (first : ℕ) (gs : List Gate) (v : Values) (ms : List Bool) (root n : ℕ) → Ascending first (pairs gs) → root < first + length gs → first + length gs ≤ length ms →

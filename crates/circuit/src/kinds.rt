@@ -2,7 +2,7 @@
 ghost use mathlib.Core.Bool.{false, cond, _&&_};
 ghost use mathlib.Core.Path.{_≡_};
 ghost use Prim.Native.Nat.{ℕ, _<_};
-ghost use Rattle.valuation.specs.Rails.{on, of-rails, is-false};
+ghost use Rattle.valuation.specs.Rails.{on, case-value, is-false};
 ghost use Rattle.valuation.specs.Three.{not3, and3, of-bool};
 ghost use Rattle.valuation.specs.declared.Value.{Value};
 ghost use Rattle.valuation.specs.declared.Value.the-variants.{Unknown};
@@ -73,11 +73,9 @@ pub struct Wide {
 }
 
 impl Wide {
-    const ALL: u64 = 0xffff_ffff_ffff_ffff;
-
     // The value of bit c of `bits` in case c, where bit c of `known` is one; else unknown.
     pub fn new(bits: u64, known: u64) -> Wide
-        ensures { λ r. ⌜ ((c : ℕ) → of-rails (on (r .trues) c) (on (r .falses) c) ≡ cond (on known c) (of-bool (on bits c)) Unknown) ⌝ }
+        ensures { λ r. ⌜ ((c : ℕ) → case-value (r .trues) (r .falses) c ≡ cond (on known c) (of-bool (on bits c)) Unknown) ⌝ }
     {
         let trues = bits & known;
         Wide {
@@ -88,7 +86,7 @@ impl Wide {
 
     // Bit c is one where the value is false in case c.
     pub fn false_cases(self) -> u64
-        ensures { λ r. ⌜ ((c : ℕ) → on r c ≡ is-false (of-rails (on (self .trues) c) (on (self .falses) c))) ⌝ }
+        ensures { λ r. ⌜ ((c : ℕ) → on r c ≡ is-false (case-value (self .trues) (self .falses) c)) ⌝ }
     {
         self.falses
     }
@@ -99,7 +97,7 @@ pub impl Kind for Wide as Sixtyfour {
 
     ghost cases = { 64 };
 
-    ghost at = { λ w c. of-rails (on (w .trues) c) (on (w .falses) c) };
+    ghost at = { λ w c. case-value (w .trues) (w .falses) c };
 
     fn case_count() -> usize {
         Self::CASES
@@ -113,10 +111,10 @@ pub impl Kind for Wide as Sixtyfour {
             },
             Value::False => Wide {
                 trues: 0,
-                falses: Wide::ALL,
+                falses: u64::MAX,
             },
             Value::True => Wide {
-                trues: Wide::ALL,
+                trues: u64::MAX,
                 falses: 0,
             },
         }

@@ -4,17 +4,28 @@
 ghost use mathlib.Core.Bool.{false};
 ghost use mathlib.Core.List.{map, _++_};
 ghost use mathlib.Core.Path.{_≡_};
-ghost use Prim.Native.Nat.{ℕ, _+_, _/_, _<_, _≤_};
+ghost use Prim.Native.Nat.{ℕ, _+_, _*_, _/_, _<_, _≤_};
 ghost use lib.ListN.{length, getD, drop, replicate};
-ghost use Rattle.circuit.specs.Gates.{pairs};
+ghost use Rattle.circuit.specs.Gates.{pair, pairs};
 ghost use Rattle.valuation.specs.Circuit.{Ascending, reads};
-ghost use Rattle.valuation.specs.Reach.{reach, where-marked};
+ghost use Rattle.valuation.specs.Sweep.{marked};
+ghost use Rattle.valuation.specs.Reach.{inputs-of, reach, where-marked};
 ghost use Rattle.std.specs.Iters.{counting};
 use super::Gate;
 use super::Literal;
 use super::walking::gates_up_to;
 use valuation::Value;
 use valuation::ValuePartialEq;
+
+// Marks the inputs of a gate.
+fn mark_inputs(gate: Gate, marks: &mut [bool])
+    requires left { ⌜ pair gate .left < 2 * length (now marks) ⌝ }
+    requires right { ⌜ pair gate .right < 2 * length (now marks) ⌝ }
+    ensures { λ _. ⌜ now (marks .exit) ≡ marked (inputs-of (pair gate)) (now (marks .entry)) ⌝ }
+{
+    marks[gate.left().node()] = true;
+    marks[gate.right().node()] = true;
+}
 
 // Marks the nodes that are reached from the root, by one pass from its node down. No node is marked beforehand.
 pub fn mark_reached(
@@ -35,9 +46,7 @@ pub fn mark_reached(
     for k in (0..gates_up_to(root, first)).rev() {
         let node = first + k;
         if marks[node] && values[node] == Value::Unknown {
-            let gate = gates[k];
-            marks[gate.left().node()] = true;
-            marks[gate.right().node()] = true;
+            mark_inputs(gates[k], marks);
         }
     }
 }

@@ -7,6 +7,7 @@ ghost use mathlib.Core.Path.{_≡_};
 ghost use Prim.Native.Nat.{ℕ, _+_, _-_, _*_, _/_, _<_, _≤_};
 ghost use lib.ListN.{length, take, drop};
 ghost use Rattle.circuit.specs.Gates.{pair, pairs};
+ghost use Rattle.valuation.specs.Circuit.{signed as by-sign};
 ghost use Rattle.valuation.specs.Circuit.{Ascending, lit, both, reads, values-of, input-values, settings-from};
 ghost use Rattle.valuation.specs.Three.{orElse};
 use super::Gate;
@@ -45,17 +46,19 @@ pub fn set_inputs<K: Kind>(forced: &[Value], start: usize, settings: &[Value], i
     }
 }
 
+// A value, or its negation.
+fn signed<K: Kind>(value: K, negated: bool) -> K
+    ensures { λ r. ⌜ ((c : ℕ) → c < cases → at r c ≡ by-sign negated (at value c)) ⌝ }
+{
+    if negated { value.negated() } else { value }
+}
+
 // The value of a literal, by the values of the nodes.
 pub fn literal_value<K: Kind>(values: &[K], literal: Literal) -> K
     requires { ⌜ literal .code < 2 * length (now values) ⌝ }
     ensures { λ r. ⌜ ((c : ℕ) → c < cases → at r c ≡ lit (reads (map (λ v. at v c) (now (values .entry)))) (literal .code)) ⌝ }
 {
-    let value = values[literal.node()];
-    if literal.is_negated() {
-        value.negated()
-    } else {
-        value
-    }
+    signed(values[literal.node()], literal.is_negated())
 }
 
 // The value of a gate: its forced value, or the and of its literals.

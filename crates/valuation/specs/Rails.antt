@@ -15,6 +15,10 @@ of-rails true f = True
 of-rails false true = False
 of-rails false false = Unknown
 
+-- the value in case c, by the two masks
+abbrev pub case-value : ℕ → ℕ → ℕ → Value
+case-value trues falses c = of-rails (on trues c) (on falses c)
+
 -- whether a value is false
 abbrev pub is-false : Value → Bool
 is-false Unknown = false

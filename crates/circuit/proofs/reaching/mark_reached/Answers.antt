@@ -1,40 +1,33 @@
-use mathlib.Core.Path.{_≡_, refl, ap, sym, _∙_}
+use mathlib.Core.Path.{_≡_, ap, sym, _∙_}
 use mathlib.Core.Logic.{inl, inr}
 use mathlib.Core.Bool.{true}
-use Prim.Native.Nat.{suc, _+_, _-_, _*_, _/_, _<_}
+use Prim.Native.Nat.{suc, _+_, _-_, _/_, _<_, _≤_}
 use native.Mathlib.Omega.{arith}
 use lib.ListN.{length, set}
 use Rattle.std.proofs.shelf.Lists.{length-set}
 use Rattle.valuation.specs.Circuit.{reads}
-use Rattle.valuation.specs.Sweep.{sweep}
-use Rattle.valuation.specs.Reach.{leads}
+use Rattle.valuation.specs.Sweep.{marked, sweep}
+use Rattle.valuation.specs.Reach.{inputs-of, leads}
 use Rattle.valuation.proofs.Reaching.{sweep-inputs, sweep-gate, sweep-past}
 use Rattle.circuit.specs.Gates.{pairs}
-use Rattle.circuit.proofs.Records.{reads-below, inputs-marked, reach-marked}
+use Rattle.circuit.proofs.Records.{pair-at, reads-below, reach-marked}
 use Rattle.circuit.proofs.reaching.mark_reached.Needs as need
 use Rattle.circuit.proofs.reaching.mark_reached.Needs.{else-marks-node·by·then-marks-node·else-eq, else-marks-node·by·else-marks-node}
 
-pub index-marks-node-then-eq : need.index-marks-node-then-eq
-index-marks-node-then-eq c =
+pub mark-inputs-requires : need.mark-inputs-requires
+mark-inputs-requires c κs =
     let k : c .loop-k .k - 1 < length (c .args .gates .now) = omega arith in
-    let l : c .left .result .code < 2 * (c .args .first + (c .loop-k .k - 1)) =
-    rw (c .left .ensures) (reads-below (c .args .gates .now) (c .args .first) (c .loop-k .k - 1) _ _ (c .pre .ascending) k refl .0) in
-    omega (arith, length-set (c .args .marks .now) (c .node .result) true)
-
-pub index-marks-node-then-eq-2 : need.index-marks-node-then-eq-2
-index-marks-node-then-eq-2 c =
-    let k : c .loop-k .k - 1 < length (c .args .gates .now) = omega arith in
-    let r : c .right .result .code < 2 * (c .args .first + (c .loop-k .k - 1)) =
-    rw (c .right .ensures) (reads-below (c .args .gates .now) (c .args .first) (c .loop-k .k - 1) _ _ (c .pre .ascending) k refl .1) in
-    omega (arith, length-set (c .args .marks .now) (c .node .result) true, length-set (c .loop-k .marks) (c .node-then-eq .result) true)
+    let n : c .args .first + (c .loop-k .k - 1) ≤ length (c .loop-k .marks) = omega (arith, length-set (c .args .marks .now) (c .node .result) true) in
+    let p = reads-below (c .args .gates .now) (c .args .first) (c .loop-k .k - 1) _ _ (c .pre .ascending) k n in
+    record { left = p .0; right = p .1 }
 
 pub loop-k-again-then-eq : need.loop-k-again-then-eq
 loop-k-again-then-eq c =
+    let L = leads (c .args .first) (pairs (c .args .gates .now)) (reads (c .args .values .now)) in
     let k : c .loop-k .k - 1 < length (c .args .gates .now) = omega arith in
     let n : c .args .first + c .loop-k .k ≡ suc (c .args .first + (c .loop-k .k - 1)) = omega arith in (
       omega arith,
-      ap (sweep (leads (c .args .first) (pairs (c .args .gates .now)) (reads (c .args .values .now))) (c .args .first + (c .loop-k .k - 1)))
-          (inputs-marked (c .args .gates .now) (c .loop-k .k - 1) _ (c .loop-k .marks) _ _ _ _ k (c .node-then-eq .ensures) (c .left .ensures) (c .node-then-eq-2 .ensures) (c .right .ensures))
+      ap (sweep L (c .args .first + (c .loop-k .k - 1))) (c .mark-inputs .ensures ∙ ap (λ g. marked (inputs-of g) (c .loop-k .marks)) (sym (pair-at (c .args .gates .now) (c .loop-k .k - 1) _ k)))
           ∙ sweep-gate (c .args .first) (pairs (c .args .gates .now)) (reads (c .args .values .now)) (c .loop-k .k - 1) (c .loop-k .marks) _ n (c .if-marks-node .taken) (c .if-eq .ensures tt)
           ∙ c .loop-k .inv .1,
     )

@@ -1,6 +1,6 @@
-use mathlib.Core.Path.{_≡_, ap, sym, _∙_}
+use mathlib.Core.Path.{ap, sym, _∙_}
 use mathlib.Core.List.{map}
-use Prim.Native.Nat.{_+_, _-_, _<_}
+use Prim.Native.Nat.{_+_, _-_, _<_, _≤_}
 use native.Mathlib.Omega.{arith}
 use native.Mathlib.Nat.{sub-zero}
 use lib.ListN.{length, take}
@@ -14,7 +14,7 @@ use Rattle.circuit.proofs.walking.walk.Needs as need
 
 pub gate-value-requires : need.gate-value-requires
 gate-value-requires g c κs =
-    let n : length (take (c .args .first + c .loop-k .k - 0) (c .loop-k .values)) ≡ c .args .first + c .loop-k .k = simp length-take (omega arith) in
+    let n : c .args .first + c .loop-k .k ≤ length (take (c .args .first + c .loop-k .k - 0) (c .loop-k .values)) = simp length-take (omega arith) in
     let p = reads-below (c .args .gates .now) (c .args .first) (c .loop-k .k) _ _ (c .pre .ascending) (c .loop-k-test .taken) n in
     record { left = p .0; right = p .1 }
 

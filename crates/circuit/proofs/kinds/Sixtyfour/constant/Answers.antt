@@ -7,7 +7,7 @@ use Rattle.circuit.proofs.kinds.Sixtyfour.constant.Needs.{in-Unknown, in-False
 pub returns : need.returns
 returns c = λ k h.
     elim (c .match-value .came) [
-      | in-Unknown w ↦ ap (λ r. of-rails (on (r .0) k) (on (r .1 .0) k)) (w .result-is) ∙ ap₂ of-rails (on-none k) (on-none k) ∙ sym (w .in-Unknown .is)
-      | in-False w ↦ ap (λ r. of-rails (on (r .0) k) (on (r .1 .0) k)) (w .result-is) ∙ ap₂ of-rails (on-none k) (on-all k h) ∙ sym (w .in-False .is)
-      | in-True w ↦ ap (λ r. of-rails (on (r .0) k) (on (r .1 .0) k)) (w .result-is) ∙ ap₂ of-rails (on-all k h) (on-none k) ∙ sym (w .in-True .is)
+      | in-Unknown w ↦ ap₂ of-rails (ap (λ r. on (r .0) k) (w .result-is) ∙ on-none k) (ap (λ r. on (r .1 .0) k) (w .result-is) ∙ on-none k) ∙ sym (w .in-Unknown .is)
+      | in-False w ↦ ap₂ of-rails (ap (λ r. on (r .0) k) (w .result-is) ∙ on-none k) (ap (λ r. on (r .1 .0) k) (w .result-is) ∙ on-all k h) ∙ sym (w .in-False .is)
+      | in-True w ↦ ap (λ b. of-rails b (on (c .match-value .result .1 .0) k)) (ap (λ r. on (r .0) k) (w .result-is) ∙ on-all k h) ∙ sym (w .in-True .is)
     ]
