@@ -2,8 +2,12 @@
 ghost use mathlib.Core.Path.{_≡_};
 ghost use Prim.Native.Nat.{ℕ, _+_, _*_, _/_, _%_, _<_};
 ghost use lib.Dec.{eqb};
-ghost use Rattle.valuation.specs.Circuit.{Pair, blank};
+ghost use Rattle.valuation.specs.Circuit.{Pair};
 ghost use Rattle.circuit.specs.Gates.{pair};
+
+pub mod kinds;
+pub mod reaching;
+pub mod walking;
 
 // A literal: twice its node, and one more where it is negated.
 #[derive(Clone, Copy, PartialEq, Eq, Debug)]
