@@ -1,3 +1,4 @@
 pub mod Queries
 pub mod Answers
 pub mod Asking
+pub mod Examples

@@ -7,6 +7,7 @@ ghost use Rattle.valuation.specs.declared.Value.the-variants.{Unknown};
 ghost use Rattle.search.specs.Queries.{Query, Sound};
 ghost use Rattle.search.specs.Asking.{asked};
 ghost use Rattle.search.specs.Answers.{Answer, Keeps, reply-of, range-after, marks-after};
+ghost use Rattle.search.specs.Examples.{Both-outcomes};
 use circuit::Gate;
 use circuit::Literal;
 use valuation::Value;
@@ -56,4 +57,11 @@ pub trait Searcher {
         ensures reply { λ r. ⌜ r ≡ reply-of (meaning (now (self .entry)) (asked (ask .entry) (now (forced .entry)) (length (now (range .entry))))) (ask .entry .allowance) ⌝ }
         ensures range { λ _. ⌜ now (range .exit) ≡ range-after (meaning (now (self .entry)) (asked (ask .entry) (now (forced .entry)) (length (now (range .entry))))) (ask .entry .allowance) (length (now (range .entry))) ⌝ }
         ensures marks { λ _. ⌜ now (marks .exit) ≡ marks-after (meaning (now (self .entry)) (asked (ask .entry) (now (forced .entry)) (length (now (range .entry))))) (ask .entry .allowance) (length (now (forced .entry))) ⌝ };
+}
+
+// Sound queries exist, with either outcome.
+pub fn both_outcomes() -> u8
+    ensures { λ _. ⌜ Both-outcomes ⌝ }
+{
+    0
 }
