@@ -10,7 +10,7 @@ use valuation::Value;
 use valuation::ValuePartialEq;
 
 pub trait Kind: Copy {
-    // How many cases it carries. A clause cannot cite it, and says `cases`, which `case_count` ties to it.
+    // How many cases it carries. A clause cannot cite it, and says `cases`; `case_count` ties the two.
     const CASES: usize;
 
     ghost cases: { ℕ };
@@ -18,6 +18,7 @@ pub trait Kind: Copy {
     // The meaning: the value in each case.
     ghost at: { Self → ℕ → Value };
 
+    // `CASES`, for a proof.
     fn case_count() -> usize
         ensures { λ r. ⌜ r ≡ cases ⌝ };
 
