@@ -1,5 +1,5 @@
 ghost use mathlib.Core.Path.{_≡_};
-ghost use Prim.Native.Nat.{ℕ, _+_, _/_, _<_, _≤_};
+ghost use Prim.Native.Nat.{_+_, _/_, _<_, _≤_};
 ghost use lib.ListN.{length};
 ghost use Rattle.circuit.specs.Gates.{pairs};
 ghost use Rattle.valuation.specs.Circuit.{Ascending};
@@ -16,7 +16,6 @@ use circuit::walking::set_inputs;
 use circuit::walking::walk;
 use std::test::*;
 use valuation::Value;
-use valuation::ValueDebug;
 use valuation::ValuePartialEq;
 
 const FIRST: usize = 9;

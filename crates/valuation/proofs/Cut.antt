@@ -11,7 +11,8 @@ use Rattle.std.proofs.shelf.Lists.{getD-past}
 use Rattle.std.proofs.shelf.Tests.{cases-lt, le-ltb, ltb-false, ne-eqb}
 use Rattle.valuation.specs.declared.Value.{Value}
 use Rattle.valuation.specs.declared.Value.the-variants.{Unknown, False, True}
-use Rattle.valuation.specs.Circuit.{Pair, blank, gate, Ascending, Values, nothing, reads, node-values, Reached, at-root, by-left, by-right}
+use Rattle.valuation.specs.Three.{Below}
+use Rattle.valuation.specs.Circuit.{Pair, blank, gate, Ascending, Values, nothing, negated, signed, lit, reads, node-values, Reached, at-root, by-left, by-right}
 use Rattle.valuation.specs.Sweep.{In, From, begin, go}
 use Rattle.valuation.specs.Reach.{if-unknown, inputs-of, leads, reach, cut}
 use Rattle.valuation.specs.Claims.{Reach-exact, Cut-right, Cut-sound}
@@ -101,6 +102,13 @@ cut-right first gs root b₀ b c asc pos inside bs cs c₀ n r =
     (equations-hold first gs nothing b₀ asc .1) (equations-hold first gs nothing b asc .1) (equations-hold first gs F c asc .1) bs cs refl c₀ pos
     (λ m q nz. ap₂ (λ s t. cond s Unknown (cond t (z m) Unknown)) (ne-eqb m 0 nz) (reach-exact first gs z root asc pos inside m .1 q))
     n (reached-inside first gs z root asc pos inside n r) r
+
+-- the same for the root's literal
+pub cut-literal : (first : ℕ) (gs : List Pair) (l : ℕ) (b₀ b c : Values) → Ascending first gs → 0 < first → l / 2 < first + length gs →
+    ((n : ℕ) → n < first → Below (b₀ n) (b n)) →
+    ((n : ℕ) → n < first → b₀ n ≡ Unknown → c n ≡ b n) → c 0 ≡ b 0 →
+    lit (reads (node-values first gs (cut first gs (reads (node-values first gs nothing b₀)) (l / 2)) c)) l ≡ lit (reads (node-values first gs nothing b)) l
+cut-literal first gs l b₀ b c asc pos inside bs cs c₀ = ap (signed (negated l)) (cut-right first gs (l / 2) b₀ b c asc pos inside bs cs c₀ (l / 2) at-root)
 
 pub cut-sound : Cut-sound
 cut-sound first gs v root n = pick (eqb n 0) (getD (reach first gs v root) n false)

@@ -47,6 +47,11 @@ cond-same : (b : Bool) (ms : List Bool) → cond b ms ms ≡ ms
 cond-same true ms = refl
 cond-same false ms = refl
 
+if-known : (x : Value) (ns : List ℕ) → x ≢ Unknown → if-unknown x ns ≡ []
+if-known Unknown ns h = absurd (h refl)
+if-known False ns h = refl
+if-known True ns h = refl
+
 module _ (first : ℕ) (gs : List Pair) (v : Values) where
   -- inputs lead nowhere
   pub sweep-inputs : (ms : List Bool) → sweep (leads first gs v) first ms ≡ ms
@@ -70,12 +75,10 @@ module _ (first : ℕ) (gs : List Pair) (v : Values) where
     pub sweep-past : (n : ℕ) → n ≡ suc (first + k) → (getD ms (first + k) false ≡ false) ⊎ (v (first + k) ≢ Unknown) →
         sweep (leads first gs v) (first + k) ms ≡ sweep (leads first gs v) n ms
     sweep-past n s (inl e) = at-gate false (v (first + k)) e refl n s
-    sweep-past n s (inr h) = pick (v (first + k)) refl
-      where
-        pick : (x : Value) → v (first + k) ≡ x → sweep (leads first gs v) (first + k) ms ≡ sweep (leads first gs v) n ms
-        pick Unknown f = absurd (h f)
-        pick False f = ap (sweep (leads first gs v) (first + k)) (sym (cond-same (getD ms (first + k) false) ms)) ∙ at-gate (getD ms (first + k) false) False refl f n s
-        pick True f = ap (sweep (leads first gs v) (first + k)) (sym (cond-same (getD ms (first + k) false) ms)) ∙ at-gate (getD ms (first + k) false) True refl f n s
+    sweep-past n s (inr h) =
+        let b = getD ms (first + k) false in
+        ap (sweep (leads first gs v) (first + k)) (sym (ap (λ js. cond b (marked js ms) ms) (if-known (v (first + k)) (inputs-of (gate gs k)) h) ∙ cond-same b ms))
+        ∙ at-gate b (v (first + k)) refl refl n s
 
   -- From clear marks, the sweep from the root's node down gives what is reached.
   pub sweep-reach : (ms : List Bool) (root n : ℕ) → Ascending first gs → root < first + length gs → first + length gs ≤ length ms →

@@ -2,13 +2,13 @@
 use mathlib.Core.Path.{_≡_, refl, sym, _∙_}
 use mathlib.Core.Logic.{_≢_, inl, inr}
 use mathlib.Core.List.{List}
-use Prim.Native.Nat.{ℕ, _+_, _<_}
+use Prim.Native.Nat.{ℕ, _+_, _/_, _<_}
 use lib.ListN.{length}
 use Rattle.valuation.specs.declared.Value.the-variants.{Unknown}
 use Rattle.valuation.specs.Three.{orElse, Below, Agree}
-use Rattle.valuation.specs.Circuit.{Pair, Ascending, Values, nothing, Valuation, reads, node-values}
+use Rattle.valuation.specs.Circuit.{Pair, Ascending, Values, nothing, negated, lit, Valuation, reads, node-values}
 use Rattle.valuation.specs.Claims.{Core-more}
-use Rattle.valuation.proofs.Order.{known, below-same, below-trans, below-known, below-first, below-second}
+use Rattle.valuation.proofs.Order.{known, below-signed, below-same, below-trans, below-known, below-first, below-second}
 use Rattle.valuation.proofs.Nodes.{more, unforced-more, forced-value}
 use Rattle.valuation.proofs.Computed.{equations-hold}
 
@@ -53,3 +53,13 @@ core-more first gs F G p b c w x y asc W sound agree X Y less bs =
       | inr k ↦ inl (below-trans (x n) (known-of first gs p c n) (y n) (below first gs F G p b c w x asc W sound agree X less bs n i)
           (below-same (known-of first gs p c n) (y n) (forced-value first gs G c y Y n i k ∙ sym (given first gs F G p b c w x asc W sound agree X less bs n i k))))
     ])
+
+-- the same for a literal, on the computed values
+pub core-literal : (first : ℕ) (gs : List Pair) (F G p b c : Values) → Ascending first gs →
+    ((n : ℕ) → n < first + length gs → G n ≢ Unknown → reads (node-values first gs nothing p) n ≡ G n) →
+    ((n : ℕ) → n < first → Agree (p n) (c n)) →
+    ((n : ℕ) → n < first + length gs → Below (F n) (G n)) → ((n : ℕ) → n < first → Below (b n) (c n)) →
+    (l : ℕ) → l / 2 < first + length gs → Below (lit (reads (node-values first gs F b)) l) (lit (reads (node-values first gs G c)) l)
+core-literal first gs F G p b c asc sound agree less bs l i =
+    below-signed (negated l) _ _
+    (core-more first gs F G p b c _ _ _ asc (equations-hold first gs nothing p asc .1) sound agree (equations-hold first gs F b asc .1) (equations-hold first gs G c asc .1) less bs (l / 2) i)
