@@ -1,6 +1,5 @@
 // Reads a question from standard input, judges it whole, and prints what it did.
 use circuit::Gate;
-use circuit::Literal;
 use question::Block;
 use question::Quantifier;
 use question::Question;
@@ -11,8 +10,10 @@ use std::io::Read;
 // No accepted question has more bytes than 16,118.
 const MOST_BYTES: u64 = 20_000;
 
+// The most entries that a load takes.
 const TABLE_ENTRIES: usize = 8_000;
 
+// The word for a block's quantifier.
 fn quantifier(block: &Block) -> &'static str {
     match block.quantifier {
         Quantifier::Existential => "existential",
@@ -64,8 +65,7 @@ fn ask(rt: &LibcRuntime) -> Result<(), AnyError> {
     let heap = rt.alloc();
     let mut bytes = Vec::new(heap);
     rt.stdin().take(MOST_BYTES).read_to_end(&mut bytes)?;
-    let empty = Gate::new(Literal::new(0), Literal::new(0));
-    let table = vec![in heap; empty; TABLE_ENTRIES]?;
+    let table = vec![in heap; Gate::free(); TABLE_ENTRIES]?;
     match load(bytes.as_slice(), table) {
         Ok(question) => print_question(rt, bytes.len(), &question),
         Err(rejected) => {

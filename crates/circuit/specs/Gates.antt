@@ -7,6 +7,7 @@ use Rattle.circuit.specs.declared.Gate.{Gate}
 abbrev pub pair : Gate → Pair
 pair g = record { left = g .left .code; right = g .right .code }
 
+-- the literals of each gate
 abbrev pub pairs : List Gate → List Pair
 pairs gs = map pair gs
 

@@ -3,7 +3,7 @@ ghost use mathlib.Core.Path.{_≡_};
 ghost use Prim.Native.Nat.{ℕ, _+_, _*_, _/_, _%_, _<_};
 ghost use lib.Dec.{eqb};
 ghost use Rattle.valuation.specs.Circuit.{Pair};
-ghost use Rattle.circuit.specs.Gates.{pair};
+ghost use Rattle.circuit.specs.Gates.{empty, pair};
 
 pub mod kinds;
 pub mod reaching;
@@ -43,7 +43,7 @@ impl Literal {
     }
 }
 
-// The and of two literals. Only `new`, `left` and `right` know what else a gate's record holds.
+// The and of two literals. Only `new`, `left` and `right` build a gate's record or take it apart.
 #[derive(Clone, Copy, PartialEq, Eq, Debug)]
 pub struct Gate {
     left: Literal,
@@ -55,6 +55,13 @@ impl Gate {
         ensures { λ r. ⌜ pair r ≡ record { left = left .code; right = right .code } ⌝ }
     {
         Gate { left, right }
+    }
+
+    // The gate of a free entry of a table.
+    pub fn free() -> Gate
+        ensures { λ r. ⌜ r ≡ empty ⌝ }
+    {
+        Gate::new(Literal::new(0), Literal::new(0))
     }
 
     pub fn left(self) -> Literal

@@ -1,14 +1,14 @@
 -- A table that the records of gates fill. Assumes nothing.
 use mathlib.Core.Path.{_≡_, refl, sym, ap, subst, _∙_}
 use mathlib.Core.Logic.{inl, inr}
-use mathlib.Core.List.{List, [], _∷_, _++_, map}
+use mathlib.Core.List.{List, [], _∷_, _++_}
 use Prim.Native.Nat.{ℕ, zero, suc, _+_, _-_, _*_, _/_, _%_, _≤_, _<_}
 use native.Mathlib.Nat.{mul-suc}
 use native.Mathlib.Omega.{arith}
 use lib.Dec.{ltb}
 use lib.ListN.{length, getD, set, take, drop, replicate}
 use Rattle.std.specs.Joined.{joined}
-use Rattle.std.proofs.shelf.Lists.{map-set, length-map, getD-set-same, getD-set-other, getD-append-left, getD-append-right, getD-append-add, getD-replicate, length-append, length-replicate, ext-getD, append-assoc, drop-at, drop-map}
+use Rattle.std.proofs.shelf.Lists.{getD-set-same, getD-set-other, getD-append-left, getD-append-right, getD-append-add, getD-replicate, length-append, length-replicate, ext-getD, append-assoc, drop-at, length-drop, getD-drop}
 use Rattle.std.proofs.shelf.Tests.{cases-lt, cases-eq, lt-ltb, le-ltb, cond-true, cond-false}
 use Rattle.valuation.specs.Circuit.{Pair, blank, gate}
 use Rattle.circuit.specs.declared.Gate.{Gate}
@@ -20,13 +20,12 @@ use Rattle.question.specs.Loading.{pair-at, entry-of, cells}
 use Rattle.question.proofs.Reading.{recovered}
 
 -- one entry more
-pub fill-more : (f : ℕ → Pair) (t : List Gate) (i : ℕ) (g : Gate) → i < length t → pair g ≡ f i → ((k : ℕ) → k < i → gate (pairs t) k ≡ f k) →
-    (k : ℕ) → k < i + 1 → gate (pairs (set t i g)) k ≡ f k
-fill-more f t i g inside here before k lt =
-    let moved : gate (pairs (set t i g)) k ≡ gate (set (pairs t) i (pair g)) k = ap (λ ps. gate ps k) (map-set pair t i g) in
+pub each-more : (P : ℕ → Gate → Type 0) (t : List Gate) (i : ℕ) (g : Gate) → i < length t → P i g → ((k : ℕ) → k < i → P k (getD t k empty)) →
+    (k : ℕ) → k < i + 1 → P k (getD (set t i g) k empty)
+each-more P t i g inside here before k lt =
     elim (cases-eq k i) [
-      | inl same ↦ moved ∙ ap (gate (set (pairs t) i (pair g))) same ∙ getD-set-same (pairs t) i (pair g) blank (subst (λ n. i < n) (sym (length-map t pair)) inside) ∙ here ∙ ap f (sym same)
-      | inr other ↦ moved ∙ getD-set-other (pairs t) i k (pair g) blank other ∙ before k (omega (arith, other))
+      inl same ↦ subst (λ n. P n (getD (set t i g) n empty)) (sym same) (subst (P i) (sym (getD-set-same t i g empty inside)) here)
+    | inr other ↦ subst (P k) (sym (getD-set-other t i k g empty other)) (before k (omega (arith, other)))
     ]
 
 -- the k-th record of gates
@@ -77,19 +76,9 @@ filled f entries records rest ps is size room each =
       | inr past ↦ each k inside ∙ cond-false (ltb k n) _ _ (le-ltb k n past) ∙ sym (getD-append-right (f .gates) zeros n k blank refl past ∙ getD-replicate (entries - n) (k - n) blank blank (omega arith))
     ])
 
--- a free entry is all zeros, whatever a gate holds
-gate-from : Pair → Gate
-gate-from p = record { left = record { code = p .left }; right = record { code = p .right } }
-
-unpaired : (gs : List Gate) → map gate-from (pairs gs) ≡ gs
-unfolding gate-from
-unpaired [] = refl
-unpaired (g ∷ gs) = ap (λ hs. g ∷ hs) (unpaired gs)
-
-zeros-unpaired : (n : ℕ) → map gate-from (replicate n blank) ≡ replicate n empty
-unfolding gate-from
-zeros-unpaired zero = refl
-zeros-unpaired (suc n) = ap (λ hs. empty ∷ hs) (zeros-unpaired n)
-
-pub free-from : (n m : ℕ) (gs : List Gate) → drop n (pairs gs) ≡ replicate m blank → drop n gs ≡ replicate m empty
-free-from n m gs h = sym (unpaired (drop n gs)) ∙ ap (map gate-from) (sym (drop-map pair n gs) ∙ h) ∙ zeros-unpaired m
+-- what is after the last gate is free
+pub free-from : (n : ℕ) (gs : List Gate) → ((k : ℕ) → n ≤ k → k < length gs → getD gs k empty ≡ empty) → drop n gs ≡ replicate (length gs - n) empty
+free-from n gs each =
+    ext-getD empty (drop n gs) (replicate (length gs - n) empty) (length-drop n gs ∙ sym (length-replicate (length gs - n) empty)) (λ k lt.
+    let inside : k < length gs - n = omega (arith, length-drop n gs) in
+    getD-drop n gs k empty ∙ each (n + k) (omega arith) (omega arith) ∙ sym (getD-replicate (length gs - n) k empty empty inside))

@@ -5,13 +5,13 @@ use mathlib.Core.List.{List, _++_}
 use Prim.Native.Nat.{ℕ, _+_, _-_, _*_, _≤_, _<_}
 use native.Mathlib.Omega.{arith}
 use lib.Dec.{ltb}
-use lib.ListN.{length, take, drop, replicate}
+use lib.ListN.{length, getD, take, drop, replicate}
 use Rattle.std.specs.declared.result.Result.the-variants.{Ok}
 use Rattle.std.specs.Changed.{refilled}
 use Rattle.std.specs.Of.Vec.{vec-items, vec-len}
 use Rattle.std.specs.declared.vec.Vec.{Vec}
 use Rattle.std.specs.declared.alloc.Global.{Global}
-use Rattle.std.proofs.shelf.Lists.{length-map, take-at, drop-at, take-rest, refilled-is}
+use Rattle.std.proofs.shelf.Lists.{length-map, getD-map, take-at, take-rest, refilled-is}
 use Rattle.std.proofs.shelf.Tests.{ltb-false, or-parts, cond-false}
 use Rattle.valuation.specs.Circuit.{Pair, blank, gate}
 use Rattle.circuit.specs.declared.Gate.{Gate}
@@ -22,17 +22,17 @@ use Rattle.question.specs.declared.judging.Outline.{Outline}
 use Rattle.question.specs.Rules.{blocks-of}
 use Rattle.question.specs.Judging.{Right, Outlined, judgement}
 use Rattle.question.specs.declared.records.Refusal.the-variants.{TableSize}
-use Rattle.question.specs.Loading.{entry-of, cells, unfit, accepted, refused, loaded-as, loaded}
+use Rattle.question.specs.Loading.{Entry, entry-of, cells, unfit, accepted, refused, loaded-as, loaded}
 use Rattle.question.proofs.Filled.{gates-begin, long, filled, free-from}
 
 -- what a table holds that the records of a formula's gates have filled, and the formula that it keeps
 module _ (bytes : List ℕ) (f : Formula) (right : Right bytes (Ok f)) (bs : List Block) (n l : ℕ) (blocks : bs ≡ f .blocks) (gates : n ≡ length (f .gates)) (output : l ≡ f .output)
     (records : List ℕ) (begins : records ≡ drop (7 * length bs) bytes) (table : List Gate) (room : n ≤ length table)
-    (each : (k : ℕ) → k < length table → gate (pairs table) k ≡ entry-of records n k) where
+    (each : (k : ℕ) → k < length table → Entry records n k (getD table k empty)) where
   pub held : pairs table ≡ cells f (length table)
   held =
       filled f (length table) records (output-bytes (f .output)) (pairs table) (begins ∙ ap (λ cs. drop (7 * length cs) bytes) blocks ∙ gates-begin f bytes (right .1)) (length-map table pair)
-      (subst (λ m. m ≤ length table) gates room) (λ k lt. each k lt ∙ ap (λ m. entry-of records m k) gates)
+      (subst (λ m. m ≤ length table) gates room) (λ k lt. getD-map pair table k empty blank lt ∙ each k lt .0 ∙ ap (λ m. entry-of records m k) gates)
 
   pub keeps : formula-of bs (pairs table) n l ≡ f
   keeps =
@@ -45,9 +45,7 @@ module _ (bytes : List ℕ) (f : Formula) (right : Right bytes (Ok f)) (bs : Lis
   well = subst WellFormed (sym keeps) (right .0)
 
   pub free : drop n table ≡ replicate (length table - n) empty
-  free =
-      free-from n (length table - n) table
-      (ap (drop n) held ∙ drop-at (f .gates) _ n (sym gates) ∙ ap (λ m. replicate (length table - m) blank) (sym gates))
+  free = free-from n table (λ k past lt. each k lt .1 past)
 
 -- the bytes have room for what their outline says
 pub bytes-long : (bytes : List ℕ) (o : Outline) → Outlined bytes o → length bytes ≡ 7 * length (blocks-of (o .prefix)) + 8 * o .gates + 6
@@ -66,7 +64,7 @@ pub record Made (bytes : List ℕ) (o : Outline) (v table : Vec Gate Global) : T
 -- ws is what v holds once it is filled in place
 module _ (bytes : List ℕ) (o : Outline) (d : Outlined bytes o) (v : Vec Gate Global) (ws : List Gate) (size : length ws ≡ vec-len v) (fit : unfit (o .gates) (vec-len v) ≡ false)
     (first : ℕ) (at : first ≡ 7 * length (blocks-of (o .prefix)))
-    (each : (k : ℕ) → k < length ws → gate (pairs ws) k ≡ entry-of (take (length bytes - first) (drop first bytes)) (o .gates) k) where
+    (each : (k : ℕ) → k < length ws → Entry (take (length bytes - first) (drop first bytes)) (o .gates) k (getD ws k empty)) where
   same : vec-items (refilled v ws) ≡ ws
   same = refilled-is v ws size
 

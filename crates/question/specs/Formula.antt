@@ -16,7 +16,7 @@ pub record Formula : Type 0 where
   pub gates : List Pair
   pub output : ℕ
 
--- with the first n of a table's gates
+-- the formula with these blocks, the first n gates of a table and this output
 abbrev pub formula-of : List Block → List Pair → ℕ → ℕ → Formula
 formula-of bs table n output = record { blocks = bs; gates = take n table; output = output }
 
@@ -28,8 +28,10 @@ pub record Good (bs : List Block) (gs : List Pair) : Type 0 where
   pub alternating : Alternating bs
   pub fewGates : length gs ≤ 2000
   pub ascending : Ascending (1 + total bs) gs
+  -- a gate only after some block
   pub blocksFirst : 0 < length gs → 0 < length bs
 
+-- a good beginning with some block, and an output literal of some node
 pub record WellFormed (f : Formula) : Type 0 where
   pub good : Good (f .blocks) (f .gates)
   pub some : 0 < length (f .blocks)
@@ -39,17 +41,20 @@ pub record WellFormed (f : Formula) : Type 0 where
 abbrev pub two : ℕ → List ℕ
 two n = n % 256 ∷ n / 256 ∷ []
 
+-- the byte of a quantifier
 abbrev pub byte-of : Quantifier → ℕ
 byte-of Existential = 0
 byte-of Universal = 1
 
--- a record: the length of its body and its kind in two bytes each, then the body
+-- the record of a block: the length of its body and its kind in two bytes each, then the body
 abbrev pub block-bytes : Block → List ℕ
 block-bytes b = 3 ∷ 0 ∷ 1 ∷ 0 ∷ byte-of (b .quantifier) ∷ two (b .size)
 
+-- the record of a gate
 abbrev pub gate-bytes : Pair → List ℕ
 gate-bytes p = 4 ∷ 0 ∷ 2 ∷ 0 ∷ (two (p .left) ++ two (p .right))
 
+-- the record of the output
 abbrev pub output-bytes : ℕ → List ℕ
 output-bytes l = 2 ∷ 0 ∷ 3 ∷ 0 ∷ two l
 
@@ -57,6 +62,7 @@ output-bytes l = 2 ∷ 0 ∷ 3 ∷ 0 ∷ two l
 abbrev pub written : List Block → List Pair → List ℕ
 written bs gs = joined block-bytes bs ++ joined gate-bytes gs
 
+-- all records of a formula
 abbrev pub encode : Formula → List ℕ
 encode f = written (f .blocks) (f .gates) ++ output-bytes (f .output)
 

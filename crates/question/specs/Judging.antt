@@ -17,6 +17,7 @@ use Rattle.question.specs.Formula.{Formula, Good, WellFormed, Encodes, written
 use Rattle.question.specs.declared.judging.Outline.{Outline}
 use Rattle.question.specs.Rules.{blocks-of, rules, first, next}
 
+-- a gate's two literals as numbers
 abbrev pub pair-of : Literal → Literal → Pair
 pair-of l r = record { left = l .code; right = r .code }
 
@@ -61,7 +62,7 @@ abbrev pub Right : List ℕ → Result Formula Refusal → Type 0
 Right bytes (Ok f) = WellFormed f × Encodes f bytes
 Right bytes (Err why) = Breaks bytes why
 
--- what judging in code gives: the outline of the formula that the definition gives, or its refusal, and it is right
+-- the outline of the formula that the definition gives, and it is right
 pub record Outlined (bytes : List ℕ) (o : Outline) : Type 0 where
   pub formula : Formula
   pub judgement : judgement bytes ≡ Ok formula
@@ -70,6 +71,7 @@ pub record Outlined (bytes : List ℕ) (o : Outline) : Type 0 where
   pub gates : o .gates ≡ length (formula .gates)
   pub output : o .output .code ≡ formula .output
 
-abbrev pub Judged : List ℕ → Result Outline Refusal → Type 0
-Judged bytes (Ok o) = Outlined bytes o
-Judged bytes (Err why) = (judgement bytes ≡ Err why) × Right bytes (Err why)
+-- what judging bytes in code promises
+abbrev pub Outlines : List ℕ → Result Outline Refusal → Type 0
+Outlines bytes (Ok o) = Outlined bytes o
+Outlines bytes (Err why) = (judgement bytes ≡ Err why) × Right bytes (Err why)

@@ -11,7 +11,7 @@ use Rattle.std.specs.declared.result.Result.{Result}
 use Rattle.std.specs.declared.result.Result.the-variants.{Ok, Err}
 use Rattle.valuation.specs.Circuit.{Pair, blank}
 use Rattle.circuit.specs.declared.Gate.{Gate}
-use Rattle.circuit.specs.Gates.{pairs}
+use Rattle.circuit.specs.Gates.{empty, pair, pairs}
 use Rattle.question.specs.declared.question.Question.{Question}
 use Rattle.question.specs.declared.loading.Rejected.{Rejected}
 use Rattle.question.specs.declared.records.Refusal.{Refusal}
@@ -29,11 +29,16 @@ pair-at records k = record { left = word records (8 * k + 4); right = word recor
 abbrev pub entry-of : List ℕ → ℕ → ℕ → Pair
 entry-of records n k = cond (ltb k n) (pair-at records k) blank
 
+-- the record of that entry: with these literals, and empty after the last
+abbrev pub Entry : List ℕ → ℕ → ℕ → Gate → Type 0
+Entry records n k g = (pair g ≡ entry-of records n k) × (n ≤ k → g ≡ empty)
+
 -- the outcome of a load: the formula and the gate table after it, or why it is refused and the table
 pub data Loaded : Type 0 where
   accepted : Formula → List Pair → Loaded
   refused : Refusal → List Gate → Loaded
 
+-- what a load's result shows
 abbrev pub shown : Result Question Rejected → Loaded
 shown (Ok q) = accepted (formula q) (pairs (vec-items (q .table)))
 shown (Err e) = refused (e .refusal) (vec-items (e .table))
@@ -46,6 +51,7 @@ cells f entries = f .gates ++ replicate (entries - length (f .gates)) blank
 abbrev pub unfit : ℕ → ℕ → Bool
 unfit gates entries = ltb entries gates || ltb 8000 entries
 
+-- what a judgement leads to with this table
 abbrev pub loaded-as : Result Formula Refusal → List Gate → Loaded
 loaded-as (Err why) table = refused why table
 loaded-as (Ok f) table = cond (unfit (length (f .gates)) (length table)) (refused TableSize table) (accepted f (cells f (length table)))

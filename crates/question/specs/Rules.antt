@@ -1,7 +1,7 @@
 -- The rules that the records of a question's bytes are judged by, in the order in which they are tested.
 use mathlib.Core.Path.{_≡_}
 use mathlib.Core.Bool.{Bool, true, false, not, _&&_, _||_, cond}
-use mathlib.Core.List.{List, [], _∷_, _++_}
+use mathlib.Core.List.{List, [], _∷_}
 use Prim.Native.Nat.{ℕ, _+_, _-_, _*_, _≤_}
 use lib.Dec.{eqb, ltb}
 use lib.ListN.{length, getD, take}
@@ -26,15 +26,15 @@ abbrev pub blocks-of : Prefix → List Block
 blocks-of p = take (p .count) (p .blocks)
 
 -- each refusal's number
-abbrev pub numberOf : Refusal → ℕ
-numberOf Incomplete = 1
-numberOf Malformed = 2
-numberOf Misplaced = 3
-numberOf BlockLimits = 4
-numberOf SameQuantifier = 5
-numberOf TooManyGates = 6
-numberOf BadLiteral = 7
-numberOf TableSize = 8
+abbrev pub number-of : Refusal → ℕ
+number-of Incomplete = 1
+number-of Malformed = 2
+number-of Misplaced = 3
+number-of BlockLimits = 4
+number-of SameQuantifier = 5
+number-of TooManyGates = 6
+number-of BadLiteral = 7
+number-of TableSize = 8
 
 -- the number of two bytes, the low one first
 abbrev pub word : List ℕ → ℕ → ℕ
@@ -64,9 +64,11 @@ outside bs byte count = ltb 1 byte || (eqb count 0 || (ltb 40 count || (ltb 128 
 abbrev pub quantifier-of : ℕ → Quantifier
 quantifier-of byte = cond (eqb byte 0) Existential Universal
 
+-- the quantifier of a byte, if it is 0 or 1
 abbrev pub quantifier-named : ℕ → Option Quantifier
 quantifier-named byte = cond (ltb 1 byte) None (Some (quantifier-of byte))
 
+-- the same quantifier
 abbrev pub same : Quantifier → Quantifier → Bool
 same Existential Existential = true
 same Existential Universal = false
@@ -87,6 +89,7 @@ content-rules kind.Block bs n rest = (BlockLimits, outside bs (getD rest 4 0) (w
 content-rules kind.Gate bs n rest = (TooManyGates, ltb 1999 n) ∷ (BadLiteral, not (ltb (word rest 4) (limit bs n)) || not (ltb (word rest 6) (limit bs n))) ∷ []
 content-rules kind.Output bs n rest = (BadLiteral, not (ltb (word rest 4) (limit bs n))) ∷ (Misplaced, ltb 6 (length rest)) ∷ []
 
+-- the rules after the head
 abbrev pub kind-rules : Option Kind → List Block → ℕ → List ℕ → List (Refusal × Bool)
 kind-rules None bs n rest = (Malformed, true) ∷ []
 kind-rules (Some k) bs n rest = (Misplaced, misplaced k bs n) ∷ (Incomplete, ltb (length rest) (4 + body k)) ∷ content-rules k bs n rest
@@ -106,10 +109,12 @@ record-of kind.Block rest = record′.Block (record { quantifier = quantifier-of
 record-of kind.Gate rest = record′.Gate (record { code = word rest 4 }) (record { code = word rest 6 })
 record-of kind.Output rest = record′.Output (record { code = word rest 4 })
 
+-- the record at the front; with no kind any will do, since a rule is broken
 abbrev pub record-at : Option Kind → List ℕ → Record
 record-at None rest = record-of kind.Output rest
 record-at (Some k) rest = record-of k rest
 
+-- a refusal, or else this
 abbrev pub unless : {X : Type 0} → Option Refusal → X → Result X Refusal
 unless (Some r) x = Err r
 unless None x = Ok x
@@ -122,4 +127,4 @@ next bs n rest = unless (first (rules bs n rest)) (record-at (kind-of (word rest
 pub record Framed (bs : List Block) (n : ℕ) (rest : List ℕ) (k : Kind) : Type 0 where
   pub named : kind-of (word rest 2) (word rest 0) ≡ Some k
   pub whole : 4 + body k ≤ length rest
-  pub left : first (rules bs n rest) ≡ first (content-rules k bs n rest)
+  pub remaining : first (rules bs n rest) ≡ first (content-rules k bs n rest)

@@ -2,7 +2,7 @@
 ghost use mathlib.Core.Path.{_≡_};
 ghost use Prim.Native.Nat.{ℕ, _+_, _*_, _<_, _≤_};
 ghost use lib.ListN.{length};
-ghost use Rattle.question.specs.Judging.{Judged};
+ghost use Rattle.question.specs.Judging.{Outlines};
 use super::prefix::Prefix;
 use super::records::Record;
 use super::records::Refusal;
@@ -20,7 +20,7 @@ pub struct Outline {
 
 // Judges record by record. The measure of the loop is what is left of the bytes.
 pub(super) fn judge(bytes: &[u8]) -> Result<Outline, Refusal>
-    ensures { λ r. ⌜ Judged (now (bytes .entry)) r ⌝ }
+    ensures { λ r. ⌜ Outlines (now (bytes .entry)) r ⌝ }
 {
     let mut prefix = Prefix::new();
     let mut gates = 0;

@@ -1,17 +1,15 @@
 // Loading a question from bytes into the caller's gate table.
 ghost use mathlib.Core.Path.{_≡_};
-ghost use Prim.Native.Nat.{ℕ, _+_, _*_, _<_, _≤_};
+ghost use Prim.Native.Nat.{ℕ, _*_, _<_, _≤_};
 ghost use lib.ListN.{length, getD};
-ghost use Rattle.std.specs.Of.Vec.{vec-items, vec-len};
-ghost use Rattle.valuation.specs.Circuit.{gate};
-ghost use Rattle.circuit.specs.Gates.{pair, pairs};
-ghost use Rattle.question.specs.Loading.{entry-of, unfit, shown, loaded, Accepted-exactly, Refused-exactly, One-encoding};
+ghost use Rattle.std.specs.Of.Vec.{vec-items};
+ghost use Rattle.circuit.specs.Gates.{empty};
+ghost use Rattle.question.specs.Loading.{Entry, unfit, shown, loaded, Accepted-exactly, Refused-exactly, One-encoding};
 use super::judging::judge;
 use super::question::Question;
 use super::records::Refusal;
-use super::records::word;
+use super::records::literals;
 use circuit::Gate;
-use circuit::Literal;
 
 // A refused load: why, and the gate table as it was.
 #[derive(Drop)]
@@ -30,21 +28,20 @@ fn unfit(gates: usize, entries: usize) -> bool
 // The gate at a place of the table: that of the record there, or zeros after the last.
 fn entry(records: &[u8], gates: usize, k: usize) -> Gate
     requires { ⌜ 8 * gates ≤ length (now records) ⌝ }
-    ensures { λ r. ⌜ pair r ≡ entry-of (now (records .entry)) gates k ⌝ }
+    ensures { λ r. ⌜ Entry (now (records .entry)) gates k r ⌝ }
 {
     if k < gates {
-        let left = Literal::new(word(records, 8 * k + 4));
-        let right = Literal::new(word(records, 8 * k + 6));
+        let (left, right) = literals(records, 8 * k + 4);
         Gate::new(left, right)
     } else {
-        Gate::new(Literal::new(0), Literal::new(0))
+        Gate::free()
     }
 }
 
 // Writes the gates of these records to the front of the table, and zeros after them.
 fn fill(table: &mut [Gate], gates: usize, records: &[u8])
     requires { ⌜ 8 * gates ≤ length (now records) ⌝ }
-    ensures { λ _. ⌜ ((k : ℕ) → k < length (now (table .exit)) → gate (pairs (now (table .exit))) k ≡ entry-of (now (records .entry)) gates k) ⌝ }
+    ensures { λ _. ⌜ ((k : ℕ) → k < length (now (table .exit)) → Entry (now (records .entry)) gates k (getD (now (table .exit)) k empty)) ⌝ }
 {
     for (k, slot) in table.iter_mut().enumerate() {
         *slot = entry(records, gates, k);

@@ -2,7 +2,7 @@
 ghost use mathlib.Core.Path.{_≡_};
 ghost use Rattle.circuit.specs.Gates.{pairs};
 ghost use Rattle.question.specs.Blocks.{total};
-ghost use Rattle.question.specs.Questions.{formula, Always-well-formed};
+ghost use Rattle.question.specs.Questions.{Always-well-formed, formula, gates-of};
 use super::prefix::Block;
 use super::question::Question;
 use circuit::Gate;
@@ -25,7 +25,8 @@ impl Question {
 
     // The gates: their nodes follow those of the variables.
     pub fn gates(&self) -> &[Gate]
-        ensures { λ r. ⌜ pairs (now r) ≡ formula (now (self .entry)) .gates ⌝ }
+        ensures records { λ r. ⌜ now r ≡ gates-of (now (self .entry)) ⌝ }
+        ensures literals { λ r. ⌜ pairs (now r) ≡ formula (now (self .entry)) .gates ⌝ }
     {
         &self.table[0..self.gates]
     }

@@ -6,9 +6,9 @@ ghost use lib.ListN.{length, getD, take};
 ghost use Rattle.std.specs.declared.option.Option.the-variants.{Some, None};
 ghost use Rattle.std.specs.Results.{Cases};
 ghost use Rattle.question.specs.Blocks.{total};
-ghost use Rattle.question.specs.declared.records.Kind.the-variants as kind;
+ghost use Rattle.question.specs.declared.records.Kind.the-variants as kinds;
 ghost use Rattle.question.specs.Judging.{Front};
-ghost use Rattle.question.specs.Rules.{Framed, blocks-of, body, content-rules, first, kind-of, limit, misplaced, next, numberOf, quantifier-named, record-of, repeats, rules, unless, word};
+ghost use Rattle.question.specs.Rules.{Framed, blocks-of, body, content-rules, first, kind-of, limit, misplaced, next, number-of, quantifier-named, record-of, repeats, rules, unless, word};
 use super::prefix::Block;
 use super::prefix::Prefix;
 use super::prefix::Quantifier;
@@ -30,7 +30,7 @@ pub enum Refusal {
     SameQuantifier,
     // a gate too many
     TooManyGates,
-    // a literal of no node, or in a gate of no earlier one
+    // a gate's literal not below twice its node, or an output literal of no node
     BadLiteral,
     // a gate table with fewer entries than gates, or too large
     TableSize,
@@ -39,7 +39,7 @@ pub enum Refusal {
 impl Refusal {
     // The number that a program reports.
     pub fn number(self) -> u8
-        ensures { λ r. ⌜ r ≡ numberOf self ⌝ }
+        ensures { λ r. ⌜ r ≡ number-of self ⌝ }
     {
         match self {
             Refusal::Incomplete => 1,
@@ -70,8 +70,8 @@ pub enum Record {
     Output(Literal),
 }
 
-// The number of two bytes, the low one first.
-pub(super) fn word(bytes: &[u8], at: usize) -> u16
+// The number of two bytes, the low one first; and that both are bytes, so that the number can be written back.
+fn word(bytes: &[u8], at: usize) -> u16
     requires { ⌜ at + 1 < length (now bytes) ⌝ }
     ensures value { λ r. ⌜ r ≡ word (now (bytes .entry)) at ⌝ }
     ensures low { λ _. ⌜ getD (now (bytes .entry)) at 0 < 256 ⌝ }
@@ -80,11 +80,21 @@ pub(super) fn word(bytes: &[u8], at: usize) -> u16
     u16::from(bytes[at]) + 256 * u16::from(bytes[at + 1])
 }
 
-// The kind that a head names, where its length is right for it.
-fn kind_of(kind: u16, length: u16) -> Option<Kind>
-    ensures { λ r. ⌜ r ≡ kind-of kind length ⌝ }
+// The two literals of a gate's record.
+pub(super) fn literals(bytes: &[u8], at: usize) -> (Literal, Literal)
+    requires { ⌜ at + 3 < length (now bytes) ⌝ }
+    ensures left { λ r. ⌜ r .0 .code ≡ word (now (bytes .entry)) at ⌝ }
+    ensures right { λ r. ⌜ r .1 .code ≡ word (now (bytes .entry)) (at + 2) ⌝ }
+    ensures bytes { λ _. ⌜ (getD (now (bytes .entry)) at 0 < 256) × (getD (now (bytes .entry)) (at + 2) 0 < 256) ⌝ }
 {
-    match (kind, length) {
+    (Literal::new(word(bytes, at)), Literal::new(word(bytes, at + 2)))
+}
+
+// The kind that a head names, where its length is right for it.
+fn kind_of(number: u16, size: u16) -> Option<Kind>
+    ensures { λ r. ⌜ r ≡ kind-of number size ⌝ }
+{
+    match (number, size) {
         (1, 3) => Some(Kind::Block),
         (2, 4) => Some(Kind::Gate),
         (3, 2) => Some(Kind::Output),
@@ -163,11 +173,12 @@ fn limit(prefix: &Prefix, gates: usize) -> usize
     2 * (1 + prefix.variables() + gates)
 }
 
+// The block of a whole record in its place, or the first rule on its content that it breaks.
 fn block(prefix: &Prefix, rest: &[u8]) -> Result<Record, Refusal>
-    requires named { ⌜ kind-of (word (now rest) 2) (word (now rest) 0) ≡ Some kind.Block ⌝ }
+    requires named { ⌜ kind-of (word (now rest) 2) (word (now rest) 0) ≡ Some kinds.Block ⌝ }
     requires whole { ⌜ 7 ≤ length (now rest) ⌝ }
     ensures front { λ r. ⌜ Front (now (rest .entry)) r ⌝ }
-    ensures value { λ r. ⌜ r ≡ unless (first (content-rules kind.Block (blocks-of (now (prefix .entry))) 0 (now (rest .entry)))) (record-of kind.Block (now (rest .entry))) ⌝ }
+    ensures value { λ r. ⌜ r ≡ unless (first (content-rules kinds.Block (blocks-of (now (prefix .entry))) 0 (now (rest .entry)))) (record-of kinds.Block (now (rest .entry))) ⌝ }
 {
     let size = word(rest, 5) as usize;
     let Some(quantifier) = quantifier_of(rest[4]) else {
@@ -182,17 +193,17 @@ fn block(prefix: &Prefix, rest: &[u8]) -> Result<Record, Refusal>
     Ok(Record::Block(Block { quantifier, size }))
 }
 
+// The gate of a whole record in its place, likewise.
 fn gate(prefix: &Prefix, gates: usize, rest: &[u8]) -> Result<Record, Refusal>
-    requires named { ⌜ kind-of (word (now rest) 2) (word (now rest) 0) ≡ Some kind.Gate ⌝ }
+    requires named { ⌜ kind-of (word (now rest) 2) (word (now rest) 0) ≡ Some kinds.Gate ⌝ }
     requires whole { ⌜ 8 ≤ length (now rest) ⌝ }
     ensures front { λ r. ⌜ Front (now (rest .entry)) r ⌝ }
-    ensures value { λ r. ⌜ r ≡ unless (first (content-rules kind.Gate (blocks-of (now (prefix .entry))) gates (now (rest .entry)))) (record-of kind.Gate (now (rest .entry))) ⌝ }
+    ensures value { λ r. ⌜ r ≡ unless (first (content-rules kinds.Gate (blocks-of (now (prefix .entry))) gates (now (rest .entry)))) (record-of kinds.Gate (now (rest .entry))) ⌝ }
 {
     if gates >= 2000 {
         return Err(Refusal::TooManyGates);
     }
-    let left = Literal::new(word(rest, 4));
-    let right = Literal::new(word(rest, 6));
+    let (left, right) = literals(rest, 4);
     let limit = limit(prefix, gates);
     if left.code() as usize >= limit || right.code() as usize >= limit {
         return Err(Refusal::BadLiteral);
@@ -200,12 +211,13 @@ fn gate(prefix: &Prefix, gates: usize, rest: &[u8]) -> Result<Record, Refusal>
     Ok(Record::Gate(left, right))
 }
 
+// The output of a whole record in its place, likewise.
 fn output(prefix: &Prefix, gates: usize, rest: &[u8]) -> Result<Record, Refusal>
-    requires named { ⌜ kind-of (word (now rest) 2) (word (now rest) 0) ≡ Some kind.Output ⌝ }
+    requires named { ⌜ kind-of (word (now rest) 2) (word (now rest) 0) ≡ Some kinds.Output ⌝ }
     requires whole { ⌜ 6 ≤ length (now rest) ⌝ }
     requires few { ⌜ gates ≤ 2000 ⌝ }
     ensures front { λ r. ⌜ Front (now (rest .entry)) r ⌝ }
-    ensures value { λ r. ⌜ r ≡ unless (first (content-rules kind.Output (blocks-of (now (prefix .entry))) gates (now (rest .entry)))) (record-of kind.Output (now (rest .entry))) ⌝ }
+    ensures value { λ r. ⌜ r ≡ unless (first (content-rules kinds.Output (blocks-of (now (prefix .entry))) gates (now (rest .entry)))) (record-of kinds.Output (now (rest .entry))) ⌝ }
 {
     let literal = Literal::new(word(rest, 4));
     if literal.code() as usize >= limit(prefix, gates) {

@@ -33,6 +33,9 @@ fn bytes_of(heap: Global, hex: &str) -> Result<Vec<u8>, AnyError> {
             }
         };
     }
+    if high.is_some() {
+        return Err("half a byte".into());
+    }
     Ok(bytes)
 }
 
@@ -41,7 +44,7 @@ fn mark() -> Gate {
     Gate::new(Literal::new(65535), Literal::new(65534))
 }
 
-// How many entries at the front of a table are marks.
+// How many entries of a table are marks.
 fn marks(table: &[Gate]) -> usize {
     let mark = mark();
     let mut count = 0usize;
@@ -53,7 +56,7 @@ fn marks(table: &[Gate]) -> usize {
     count
 }
 
-// The number of the refusal, or 0; none where the load left anything of the table that it should not.
+// The number of the refusal, or 0; none where a refused load did not give the table back as it was.
 fn outcome(heap: Global, entries: usize, bytes: &[u8]) -> Result<Option<u8>, AllocError> {
     let table = vec![in heap; mark(); entries]?;
     match load(bytes, table) {

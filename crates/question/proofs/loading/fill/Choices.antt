@@ -1,9 +1,8 @@
-use mathlib.Core.Path.{_≡_}
 use Prim.Native.Nat.{ℕ, _<_}
-use Rattle.valuation.specs.Circuit.{gate}
-use Rattle.circuit.specs.Gates.{pairs}
-use Rattle.question.specs.Loading.{entry-of}
+use lib.ListN.{getD}
+use Rattle.circuit.specs.Gates.{empty}
+use Rattle.question.specs.Loading.{Entry}
 use Rattle.question.proofs.loading.fill.Given as given
 
 abbrev pub Inv-loop-k : given.InvT-loop-k
-Inv-loop-k l = (k : ℕ) → k < l .k → gate (pairs (l .table)) k ≡ entry-of (l .records) (l .gates) k
+Inv-loop-k l = (k : ℕ) → k < l .k → Entry (l .records) (l .gates) k (getD (l .table) k empty)

@@ -9,4 +9,5 @@ use Rattle.question.proofs.question.Question.gates.Needs as need
 pub returns : need.returns
 returns c =
     let q = c .args .self .now in
-    ap (λ n. pairs (take n (c .deref .result .now))) (sub-zero (q .gates)) ∙ ap (λ gs. pairs (take (q .gates) gs)) (c .deref .ensures .value) ∙ sym (take-map pair (q .gates) (vec-items (q .table)))
+    let records = ap (λ n. take n (c .deref .result .now)) (sub-zero (q .gates)) ∙ ap (take (q .gates)) (c .deref .ensures .value) in
+    record { records = records; literals = ap pairs records ∙ sym (take-map pair (q .gates) (vec-items (q .table))) }
