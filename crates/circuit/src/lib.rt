@@ -1,8 +1,7 @@
 // Literals, gates, and the values of a circuit's nodes.
 ghost use mathlib.Core.Path.{_≡_};
-ghost use Prim.Native.Nat.{ℕ, _+_, _*_, _/_, _%_, _<_};
+ghost use Prim.Native.Nat.{_/_, _%_};
 ghost use lib.Dec.{eqb};
-ghost use Rattle.valuation.specs.Circuit.{Pair};
 ghost use Rattle.circuit.specs.Gates.{empty, pair};
 
 pub mod kinds;

@@ -3,7 +3,7 @@ ghost use mathlib.Core.Path.{_≡_};
 ghost use mathlib.Core.Logic.{_≢_};
 ghost use mathlib.Core.Bool.{true, false};
 ghost use Prim.Native.Nat.{ℕ, _+_, _*_, _<_, _≤_};
-ghost use lib.ListN.{length, getD, replicate};
+ghost use lib.ListN.{length, replicate};
 ghost use Rattle.valuation.specs.declared.Value.the-variants.{Unknown};
 ghost use Rattle.valuation.specs.Circuit.{Ascending, nothing, reads, settings-from, node-values};
 ghost use Rattle.circuit.specs.Gates.{pairs};

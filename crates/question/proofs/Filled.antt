@@ -2,18 +2,17 @@
 use mathlib.Core.Path.{_≡_, refl, sym, ap, subst, _∙_}
 use mathlib.Core.Logic.{inl, inr}
 use mathlib.Core.List.{List, [], _∷_, _++_}
-use Prim.Native.Nat.{ℕ, zero, suc, _+_, _-_, _*_, _/_, _%_, _≤_, _<_}
+use Prim.Native.Nat.{ℕ, zero, suc, _+_, _-_, _*_, _≤_, _<_}
 use native.Mathlib.Nat.{mul-suc}
 use native.Mathlib.Omega.{arith}
 use lib.Dec.{ltb}
-use lib.ListN.{length, getD, set, take, drop, replicate}
+use lib.ListN.{length, getD, set, drop, replicate}
 use Rattle.std.specs.Joined.{joined}
 use Rattle.std.proofs.shelf.Lists.{getD-set-same, getD-set-other, getD-append-left, getD-append-right, getD-append-add, getD-replicate, length-append, length-replicate, ext-getD, append-assoc, drop-at, length-drop, getD-drop}
 use Rattle.std.proofs.shelf.Tests.{cases-lt, cases-eq, lt-ltb, le-ltb, cond-true, cond-false}
 use Rattle.valuation.specs.Circuit.{Pair, blank, gate}
 use Rattle.circuit.specs.declared.Gate.{Gate}
-use Rattle.circuit.specs.Gates.{pair, pairs, empty}
-use Rattle.question.specs.declared.prefix.Block.{Block}
+use Rattle.circuit.specs.Gates.{empty}
 use Rattle.question.specs.Formula.{Formula, block-bytes, gate-bytes, output-bytes, encode}
 use Rattle.question.specs.Rules.{word}
 use Rattle.question.specs.Loading.{pair-at, entry-of, cells}
@@ -24,8 +23,8 @@ pub each-more : (P : ℕ → Gate → Type 0) (t : List Gate) (i : ℕ) (g : Gat
     (k : ℕ) → k < i + 1 → P k (getD (set t i g) k empty)
 each-more P t i g inside here before k lt =
     elim (cases-eq k i) [
-      inl same ↦ subst (λ n. P n (getD (set t i g) n empty)) (sym same) (subst (P i) (sym (getD-set-same t i g empty inside)) here)
-    | inr other ↦ subst (P k) (sym (getD-set-other t i k g empty other)) (before k (omega (arith, other)))
+      | inl same ↦ subst (λ n. P n (getD (set t i g) n empty)) (sym same) (subst (P i) (sym (getD-set-same t i g empty inside)) here)
+      | inr other ↦ subst (P k) (sym (getD-set-other t i k g empty other)) (before k (omega (arith, other)))
     ]
 
 -- the k-th record of gates

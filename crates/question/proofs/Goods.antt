@@ -5,12 +5,11 @@ use mathlib.Core.List.{List, [], _∷_, _++_}
 use Prim.Native.Nat.{ℕ, suc, _+_, _-_, _*_, _≤_, _<_}
 use native.Mathlib.Omega.{arith}
 use lib.ListN.{length, getD}
-use Rattle.std.proofs.shelf.Lists.{append-assoc, length-append, length-push, getD-append-left, getD-push, getD-at}
+use Rattle.std.proofs.shelf.Lists.{length-append, length-push, getD-append-left, getD-push, getD-at}
 use Rattle.std.proofs.shelf.Tests.{cases-lt}
-use Rattle.valuation.specs.Circuit.{Pair, gate, Ascending}
-use Rattle.question.specs.declared.prefix.Quantifier.{Quantifier}
+use Rattle.valuation.specs.Circuit.{Pair, gate}
 use Rattle.question.specs.declared.prefix.Block.{Block}
-use Rattle.question.specs.Blocks.{block-at, total, Sized, Alternating}
+use Rattle.question.specs.Blocks.{block-at, total, Alternating}
 use Rattle.question.specs.Formula.{Good}
 use Rattle.question.proofs.Totals.{total-push, total-within}
 use Rattle.question.proofs.Steps.{Admits, Reads}

@@ -1,9 +1,8 @@
 -- The question that an accepted load makes. Assumes nothing.
-use mathlib.Core.Path.{_≡_, refl, sym, ap, subst, _∙_}
+use mathlib.Core.Path.{_≡_, sym, ap, subst, _∙_}
 use mathlib.Core.Bool.{false}
-use mathlib.Core.List.{List, _++_}
+use mathlib.Core.List.{List}
 use Prim.Native.Nat.{ℕ, _+_, _-_, _*_, _≤_, _<_}
-use native.Mathlib.Omega.{arith}
 use lib.Dec.{ltb}
 use lib.ListN.{length, getD, take, drop, replicate}
 use Rattle.std.specs.declared.result.Result.the-variants.{Ok}
@@ -13,7 +12,7 @@ use Rattle.std.specs.declared.vec.Vec.{Vec}
 use Rattle.std.specs.declared.alloc.Global.{Global}
 use Rattle.std.proofs.shelf.Lists.{length-map, getD-map, take-at, take-rest, refilled-is}
 use Rattle.std.proofs.shelf.Tests.{ltb-false, or-parts, cond-false}
-use Rattle.valuation.specs.Circuit.{Pair, blank, gate}
+use Rattle.valuation.specs.Circuit.{blank}
 use Rattle.circuit.specs.declared.Gate.{Gate}
 use Rattle.circuit.specs.Gates.{pair, pairs, empty}
 use Rattle.question.specs.declared.prefix.Block.{Block}

@@ -1,15 +1,14 @@
 -- Good records are read, and nothing else. Assumes nothing.
 use mathlib.Core.Path.{_≡_, refl, sym, ap, subst, _∙_}
-use mathlib.Core.Bool.{Bool, true, false, not, _||_}
+use mathlib.Core.Bool.{true, false, not, _||_}
 use mathlib.Core.List.{List, [], _∷_, _++_}
 use Prim.Native.Nat.{ℕ, suc, _+_, _-_, _*_, _/_, _%_, _≤_, _<_}
 use native.Mathlib.Nat.{add-zero, add-suc}
 use native.Mathlib.Omega.{arith}
-use lib.Dec.{eqb, ltb}
-use lib.ListN.{length, getD, drop}
+use lib.Dec.{ltb}
+use lib.ListN.{length}
 use Rattle.std.specs.Joined.{joined}
-use Rattle.std.specs.declared.option.Option.the-variants.{Some, None}
-use Rattle.std.specs.declared.result.Result.{Result}
+use Rattle.std.specs.declared.option.Option.the-variants.{None}
 use Rattle.std.specs.declared.result.Result.the-variants.{Ok, Err}
 use Rattle.std.proofs.shelf.Lists.{append-assoc, append-nil, length-append}
 use Rattle.std.proofs.shelf.Tests.{lt-ltb, le-ltb, ne-eqb, or-from, not-from-true}
@@ -20,12 +19,11 @@ use Rattle.question.specs.declared.prefix.Block.{Block}
 use Rattle.question.specs.declared.records.Refusal.{Refusal}
 use Rattle.question.specs.declared.records.Refusal.the-variants.{BlockLimits, SameQuantifier, TooManyGates, BadLiteral, Misplaced}
 use Rattle.question.specs.declared.records.Kind.the-variants as kind
-use Rattle.question.specs.declared.records.Record.{Record}
 use Rattle.question.specs.declared.records.Record.the-variants.{Block as block, Gate as gate, Output as output}
-use Rattle.question.specs.Formula.{Formula, Good, WellFormed, Encodes, two, byte-of, block-bytes, gate-bytes, output-bytes, written}
+use Rattle.question.specs.Formula.{Formula, Good, WellFormed, Encodes, byte-of, block-bytes, gate-bytes, output-bytes, written}
 use Rattle.question.specs.Rules.{word, kind-of, quantifier-of, outside, repeats, limit, content-rules, first, record-of, record-at, unless, next}
 use Rattle.question.specs.Judging.{after, judged, judgement, Breaks}
-use Rattle.question.proofs.Steps.{Admits, Reads, Ends, Placed, first-later, inside, no-repeat, reads}
+use Rattle.question.proofs.Steps.{Admits, Reads, first-later, inside, no-repeat, reads}
 use Rattle.question.proofs.Goods.{admits, reads-next}
 
 pub recovered : (n : ℕ) → n % 256 + 256 * (n / 256) ≡ n

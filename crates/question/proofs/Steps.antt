@@ -1,19 +1,16 @@
 -- What a record that breaks no rule says, and that good records break none. Assumes nothing.
 use mathlib.Core.Path.{_≡_, refl, sym, ap, subst, _∙_}
-use mathlib.Core.Logic.{_≢_, _⊎_, inl, inr}
-use mathlib.Core.Bool.{Bool, true, false, not, _&&_, _||_, cond}
-use mathlib.Core.List.{List, [], _∷_, _++_}
-use Prim.Native.Nat.{ℕ, suc, _+_, _-_, _*_, _/_, _%_, _≤_, _<_}
+use mathlib.Core.Logic.{_≢_, inl, inr}
+use mathlib.Core.Bool.{Bool, true, false, not, _||_}
+use mathlib.Core.List.{List, [], _∷_}
+use Prim.Native.Nat.{ℕ, _+_, _-_, _≤_, _<_}
 use native.Mathlib.Omega.{arith}
 use lib.Dec.{eqb, ltb}
-use lib.ListN.{length, getD, drop}
+use lib.ListN.{length, getD}
 use Rattle.std.specs.declared.option.Option.{Option}
 use Rattle.std.specs.declared.option.Option.the-variants.{Some, None}
-use Rattle.std.specs.declared.result.Result.{Result}
-use Rattle.std.specs.declared.result.Result.the-variants.{Ok, Err}
-use Rattle.std.proofs.shelf.Tests.{ltb-true, ltb-false, lt-ltb, le-ltb, eqb-false, ne-eqb, and-cases, and-left, and-right, or-parts, or-from, not-false, not-from-true, cases-lt}
-use Rattle.std.proofs.shelf.Ways.{tells}
-use Rattle.valuation.specs.Circuit.{Pair}
+use Rattle.std.specs.declared.result.Result.the-variants.{Ok}
+use Rattle.std.proofs.shelf.Tests.{ltb-true, ltb-false, le-ltb, eqb-false, ne-eqb, and-cases, and-left, and-right, or-parts, or-from, not-false, cases-lt}
 use Rattle.circuit.specs.declared.Literal.{Literal}
 use Rattle.question.specs.declared.prefix.Quantifier.{Quantifier}
 use Rattle.question.specs.declared.prefix.Quantifier.the-variants.{Existential, Universal}
@@ -25,9 +22,7 @@ use Rattle.question.specs.declared.records.Kind.the-variants as kind
 use Rattle.question.specs.declared.records.Record.{Record}
 use Rattle.question.specs.declared.records.Record.the-variants.{Block as block, Gate as gate, Output as output}
 use Rattle.question.specs.Blocks.{block-at, total}
-use Rattle.question.specs.Formula.{two, byte-of, block-bytes, gate-bytes, output-bytes}
 use Rattle.question.specs.Rules.{word, kind-of, body, misplaced, outside, quantifier-of, same, repeats, limit, content-rules, kind-rules, rules, first, record-of, record-at, unless, next}
-use Rattle.question.specs.Judging.{pair-of, bytes-of}
 use Rattle.question.proofs.Never.{impossible}
 
 -- a block that may follow others

@@ -1,7 +1,5 @@
 // Judging a question's bytes whole, before anything is written.
-ghost use mathlib.Core.Path.{_≡_};
-ghost use Prim.Native.Nat.{ℕ, _+_, _*_, _<_, _≤_};
-ghost use lib.ListN.{length};
+ghost use Prim.Native.Nat.{_+_, _<_};
 ghost use Rattle.question.specs.Judging.{Outlines};
 use super::prefix::Prefix;
 use super::records::Record;

@@ -1,11 +1,9 @@
 // The records of a question's bytes, each judged by what stands before it.
 ghost use mathlib.Core.Path.{_≡_};
-ghost use mathlib.Core.Bool.{true};
-ghost use Prim.Native.Nat.{ℕ, _+_, _*_, _<_, _≤_};
-ghost use lib.ListN.{length, getD, take};
+ghost use Prim.Native.Nat.{_+_, _*_, _<_, _≤_};
+ghost use lib.ListN.{length, getD};
 ghost use Rattle.std.specs.declared.option.Option.the-variants.{Some, None};
 ghost use Rattle.std.specs.Results.{Cases};
-ghost use Rattle.question.specs.Blocks.{total};
 ghost use Rattle.question.specs.declared.records.Kind.the-variants as kinds;
 ghost use Rattle.question.specs.Judging.{Front};
 ghost use Rattle.question.specs.Rules.{Framed, blocks-of, body, content-rules, first, kind-of, limit, misplaced, next, number-of, quantifier-named, record-of, repeats, rules, unless, word};
@@ -87,7 +85,10 @@ pub(super) fn literals(bytes: &[u8], at: usize) -> (Literal, Literal)
     ensures right { λ r. ⌜ r .1 .code ≡ word (now (bytes .entry)) (at + 2) ⌝ }
     ensures bytes { λ _. ⌜ (getD (now (bytes .entry)) at 0 < 256) × (getD (now (bytes .entry)) (at + 2) 0 < 256) ⌝ }
 {
-    (Literal::new(word(bytes, at)), Literal::new(word(bytes, at + 2)))
+    (
+        Literal::new(word(bytes, at)),
+        Literal::new(word(bytes, at + 2)),
+    )
 }
 
 // The kind that a head names, where its length is right for it.

@@ -1,23 +1,22 @@
 -- In a sound query, more forced nodes and more settings say more. Assumes nothing.
 use mathlib.Core.Path.{_≡_, refl, sym, ap, _∙_}
-use mathlib.Core.Logic.{_≢_, _⊎_, inl, inr}
+use mathlib.Core.Logic.{inl, inr}
 use mathlib.Core.Bool.{Bool, true, false, cond}
-use mathlib.Core.List.{List, map}
+use mathlib.Core.List.{List}
 use Prim.Native.Nat.{ℕ, _+_, _-_, _/_, _≤_, _<_}
 use native.Mathlib.Omega.{arith}
 use lib.Dec.{eqb, ltb}
-use lib.ListN.{length, getD}
+use lib.ListN.{length}
 use Rattle.std.proofs.shelf.Lists.{getD-past}
 use Rattle.std.proofs.shelf.Tests.{cases-lt, cases-eq, eq-eqb, ne-eqb, lt-ltb, le-ltb, cond-true, cond-false}
 use Rattle.valuation.specs.declared.Value.{Value}
 use Rattle.valuation.specs.declared.Value.the-variants.{Unknown, False}
 use Rattle.valuation.specs.Three.{Below, Agree}
-use Rattle.valuation.specs.Circuit.{Values, nothing, negated, lit, reads, settings-from, node-values}
+use Rattle.valuation.specs.Circuit.{Values, nothing, negated, reads, settings-from, node-values}
 use Rattle.valuation.proofs.Order.{below-same, below-signed, below-known}
 use Rattle.valuation.proofs.Computed.{equations-hold}
 use Rattle.valuation.proofs.Witness.{core-more}
-use Rattle.search.specs.Queries.{Query, Sound, Witness, nodes, values-under, root-under, Refuted}
-use Rattle.search.specs.Answers.{only}
+use Rattle.search.specs.Queries.{Query, Sound, nodes, values-under, root-under}
 
 -- settings by node lie below where those by place do
 settings-below : (start : ℕ) (s t : List Value) → ((k : ℕ) → Below (reads s k) (reads t k)) → (n : ℕ) → Below (settings-from start s n) (settings-from start t n)

@@ -3,10 +3,9 @@ use mathlib.Core.Path.{_≡_, refl, ap}
 use mathlib.Core.Logic.{_≢_}
 use mathlib.Core.Bool.{Bool, true, false}
 use mathlib.Core.List.{List, [], _∷_}
-use Prim.Native.Nat.{ℕ, zero, suc, _+_, _*_, _≤_, _<_}
+use Prim.Native.Nat.{ℕ, zero, suc, _+_, _<_}
 use native.Mathlib.Omega.{arith}
 use lib.ListN.{length}
-use Rattle.valuation.specs.declared.Value.{Value}
 use Rattle.valuation.specs.declared.Value.the-variants.{Unknown, False}
 use Rattle.valuation.specs.Three.{of-bool}
 use Rattle.valuation.specs.Circuit.{Ascending, Values, nothing, reads, node-values}

@@ -1,10 +1,10 @@
 -- What a searcher is asked.
 use mathlib.Core.Path.{_≡_}
 use mathlib.Core.Logic.{_≢_}
-use mathlib.Core.Bool.{Bool, cond}
+use mathlib.Core.Bool.{Bool}
 use mathlib.Core.List.{List, map}
 use Prim.Native.Nat.{ℕ, _+_, _/_, _≤_, _<_}
-use lib.ListN.{length, getD}
+use lib.ListN.{length}
 use Rattle.valuation.specs.declared.Value.{Value}
 use Rattle.valuation.specs.declared.Value.the-variants.{Unknown, False}
 use Rattle.valuation.specs.Three.{of-bool}

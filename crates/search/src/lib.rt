@@ -1,7 +1,7 @@
 // Searchers: what answers whether some setting of a block leaves a root not false, and what every searcher keeps.
 ghost use mathlib.Core.Path.{_≡_};
 ghost use mathlib.Core.Bool.{false};
-ghost use Prim.Native.Nat.{ℕ, _+_, _-_, _<_, _≤_};
+ghost use Prim.Native.Nat.{_-_, _<_};
 ghost use lib.ListN.{length, replicate};
 ghost use Rattle.valuation.specs.declared.Value.the-variants.{Unknown};
 ghost use Rattle.search.specs.Queries.{Query, Sound};

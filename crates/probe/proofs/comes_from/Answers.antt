@@ -1,10 +1,9 @@
 use borrow.Author.Needs.{needs}
 use mathlib.Core.Path.{_≡_, sym, ap, _∙_}
 use Prim.Native.Nat.{_+_, _-_}
-use native.Mathlib.Nat.{sub-zero}
 use native.Mathlib.Omega.{arith}
-use lib.ListN.{length, take, drop}
-use Rattle.std.proofs.shelf.Lists.{length-map, length-replicate, length-take, length-append, length-drop}
+use lib.ListN.{length, take}
+use Rattle.std.proofs.shelf.Lists.{length-map, length-replicate, length-take}
 use Rattle.valuation.specs.declared.Value.the-variants.{Unknown}
 use Rattle.circuit.specs.Gates.{pair, pairs}
 use Rattle.probe.proofs.Walks.{read}

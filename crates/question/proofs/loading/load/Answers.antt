@@ -1,22 +1,17 @@
 use borrow.Author.Needs.{needs}
 use mathlib.Core.Path.{_≡_, sym, ap, subst, _∙_}
-use mathlib.Core.Bool.{true, false}
+use mathlib.Core.Bool.{true}
 use mathlib.Core.List.{List}
-use Prim.Native.Nat.{ℕ, _+_, _-_, _*_, _≤_, _<_}
+use Prim.Native.Nat.{_-_, _*_, _≤_}
 use native.Mathlib.Omega.{arith}
-use lib.ListN.{length, take, drop}
-use Rattle.std.specs.Changed.{refilled}
+use lib.ListN.{length}
 use Rattle.std.specs.Of.Vec.{vec-items}
-use Rattle.std.proofs.shelf.Lists.{refilled-is, length-take, length-drop}
-use Rattle.std.proofs.shelf.Tests.{cond-true, cond-false}
-use Rattle.valuation.specs.Circuit.{gate}
-use Rattle.circuit.specs.declared.Gate.{Gate}
-use Rattle.circuit.specs.Gates.{pairs}
+use Rattle.std.proofs.shelf.Lists.{length-take, length-drop}
+use Rattle.std.proofs.shelf.Tests.{cond-true}
 use Rattle.question.specs.declared.prefix.Block.{Block}
 use Rattle.question.specs.declared.records.Refusal.the-variants.{TableSize}
-use Rattle.question.specs.Rules.{blocks-of}
 use Rattle.question.specs.Judging.{Right}
-use Rattle.question.specs.Loading.{accepted, refused, cells, entry-of, unfit, loaded-as}
+use Rattle.question.specs.Loading.{accepted, refused, cells, unfit, loaded-as}
 use Rattle.question.proofs.Kept.{bytes-long, made}
 use Rattle.question.proofs.Laws.{accepted-exactly, refused-exactly, one-encoding}
 use Rattle.question.proofs.loading.load.Needs as need

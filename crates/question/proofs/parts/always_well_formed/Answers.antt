@@ -1,14 +1,10 @@
-use mathlib.Core.Path.{_≡_, ap, sym, subst, _∙_}
-use Prim.Native.Nat.{ℕ, _+_, _*_, _≤_, _<_}
+use mathlib.Core.Path.{_≡_}
 use native.Mathlib.Omega.{arith}
 use lib.ListN.{length, take}
-use Rattle.std.specs.Of.Vec.{vec-items, vec-len}
+use Rattle.std.specs.Of.Vec.{vec-items}
 use Rattle.std.proofs.shelf.Lists.{length-map, length-take, length-take-le}
 use Rattle.circuit.specs.Gates.{pair, pairs}
 use Rattle.question.specs.declared.question.Question.{Question}
-use Rattle.question.specs.Rules.{blocks-of}
-use Rattle.question.specs.Blocks.{total}
-use Rattle.question.specs.Questions.{formula, Always-well-formed}
 use Rattle.question.proofs.parts.always_well_formed.Needs as need
 
 -- the first gates of the table are as many as the question has
