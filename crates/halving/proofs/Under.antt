@@ -8,7 +8,7 @@ use native.Mathlib.Numerals.{add-one}
 use native.Mathlib.Omega.{arith}
 use lib.Dec.{eqb, ltb}
 use lib.ListN.{length, set}
-use Rattle.std.proofs.shelf.Lists.{getD-set-same, getD-set-other, length-set, length-map}
+use Rattle.std.proofs.shelf.Lists.{getD-set-same, getD-set-other, set-set, set-getD, length-set, length-map}
 use Rattle.std.proofs.shelf.Tests.{cases-eq, cases-lt, eq-eqb, ne-eqb, lt-ltb, le-ltb, cond-true, cond-false}
 use Rattle.valuation.specs.declared.Value.{Value}
 use Rattle.valuation.specs.declared.Value.the-variants.{Unknown, False}
@@ -166,3 +166,7 @@ module _ (q : Query) (sound : Sound q) (some : 0 < q .free) (b : Bool) where
       stays-refuted (under q b) under-sound (also (q .start) b (reads (q .forced))) (reads (under q b .forced)) (map of-bool s) (map of-bool s)
       (λ n lt. below-same _ _ (reads-set (q .forced) (q .start) b (omega (arith, sound .inside, sound .covered)) n)) (λ n lt. below-same _ _ refl) (λ k. below-same _ _ refl) (omega (arith, length-map s of-bool))
       (sym (root-same (reads (q .forced)) unforced (map of-bool s)) ∙ h)
+
+  -- the entry put back
+  pub put-back : (F : List Value) (v : Value) → F ≡ set (q .forced) (q .start) v → set F (q .start) Unknown ≡ q .forced
+  put-back F v e = ap (λ xs. set xs (q .start) Unknown) e ∙ set-set (q .forced) (q .start) v Unknown ∙ ap (set (q .forced) (q .start)) (sym unforced) ∙ set-getD (q .forced) (q .start) Unknown
