@@ -1,0 +1,10 @@
+pub mod Settings
+pub mod Prefix
+pub mod Count
+pub mod Strategies
+pub mod Blocks
+pub mod Sound
+pub mod Settled
+pub mod Runs
+pub mod Claims
+pub mod Ends
