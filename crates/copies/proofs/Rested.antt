@@ -22,7 +22,7 @@ module _ (first : ℕ) (gs : List Pair) where
   abbrev Down : ℕ → ℕ → Type 0
   Down = Reached first gs nothing
 
-  on : {a b n : ℕ} → Down a b → Down b n → Down a n
+  pub on : {a b n : ℕ} → Down a b → Down b n → Down a n
   on p at-root = p
   on p (by-left k i u q) = by-left k i u (on p q)
   on p (by-right k i u q) = by-right k i u (on p q)
@@ -46,7 +46,7 @@ module _ (first : ℕ) (gs : List Pair) where
       go (inr (inr d)) = inr (inr (by-right k i u d))
 
   -- an input leads nowhere
-  below-input : {a n : ℕ} → Down a n → a < first → n ≡ a
+  pub below-input : {a n : ℕ} → Down a n → a < first → n ≡ a
   below-input at-root h = refl
   below-input (by-left k i u q) h = absurd (omega (arith, below-input q h))
   below-input (by-right k i u q) h = absurd (omega (arith, below-input q h))
