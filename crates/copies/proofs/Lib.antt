@@ -1,0 +1,10 @@
+pub mod Literals
+pub mod Copied
+pub mod Settled
+pub mod Valued
+pub mod Counted
+pub mod Making
+pub mod Right
+pub mod Core
+pub mod Rested
+pub mod Shortcuts

@@ -1,0 +1,4 @@
+pub mod Bits
+pub mod Started
+pub mod Stepped
+pub mod Worked
