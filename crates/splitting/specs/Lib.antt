@@ -1,0 +1,3 @@
+pub mod Blame
+pub mod Tree
+pub mod Claims
