@@ -7,20 +7,20 @@ use Prim.Native.Nat.{ℕ, _+_, _-_, _*_, _/_, _<_, _≤_}
 use native.Mathlib.Omega.{arith}
 use lib.Dec.{ltb}
 use lib.ListN.{length, getD}
-use Rattle.std.proofs.shelf.Lists.{getD-past, ext-getD}
+use Rattle.std.proofs.shelf.Lists.{getD-past}
 use Rattle.std.proofs.shelf.Counted.{length-map-counting, getD-map-counting}
-use Rattle.std.proofs.shelf.Tests.{cases-lt, cases-bool, le-ltb, ltb-false, true≢false}
+use Rattle.std.proofs.shelf.Tests.{cases-lt, le-ltb, ltb-false, true≢false}
 use Rattle.valuation.specs.declared.Value.{Value}
 use Rattle.valuation.specs.declared.Value.the-variants.{Unknown, False, True}
 use Rattle.valuation.specs.Three.{and3, orElse, Below}
 use Rattle.valuation.specs.Circuit.{Pair, blank, gate, Ascending, Values, negated, signed, lit, both, Valuation}
 use Rattle.valuation.specs.Sweep.{In, From, begin, go}
 use Rattle.valuation.specs.Reach.{if-unknown}
-use Rattle.valuation.proofs.Order.{known, True≢False, unknown≢watched, some-false, left-false, right-false, both-true, below-same, signed-known, forced-known, forced-unknown}
+use Rattle.valuation.proofs.Order.{known, unknown≢watched, some-false, left-false, right-false, both-true, below-same, forced-known, forced-unknown}
 use Rattle.valuation.proofs.Nodes.{nodes, half}
 use Rattle.valuation.proofs.Swept.{from-fits, sweep-exact}
 use Rattle.search.specs.Answers.{only}
-use Rattle.splitting.specs.Blame.{cause, passes, blames, blamed, is-known, forced-of, core}
+use Rattle.splitting.specs.Blame.{cause, passes, blames, blamed, is-known, core}
 use Rattle.splitting.specs.Claims.{Blame-keeps}
 
 False≢Unknown : False ≢ Unknown
@@ -95,8 +95,8 @@ module _ (first : ℕ) (gs : List Pair) (F v : Values) where
       pick false e m = let r = if-unknown-in (F n) _ j m in (ltb-false n first e, r .0, r .1)
 
   module _ (asc : Ascending first gs) (pos : 0 < first) where
-    low : (k : ℕ) → (gate gs k .left < 2 * (first + k)) × (gate gs k .right < 2 * (first + k))
-    low k =
+    pub gate-low : (k : ℕ) → (gate gs k .left < 2 * (first + k)) × (gate gs k .right < 2 * (first + k))
+    gate-low k =
         elim (cases-lt k (length gs)) [
           | inl i ↦ asc k i
           | inr i ↦ (let e : gate gs k ≡ blank = getD-past gs k blank i in (rw e (omega arith), rw e (omega arith)))
@@ -106,7 +106,7 @@ module _ (first : ℕ) (gs : List Pair) (F v : Values) where
     pub blames-down : (i j : ℕ) → In j (blames first gs F v i) → j < i
     blames-down i j m =
         let r = blames-in i j m in
-        let l = low (i - first) in
+        let l = gate-low (i - first) in
         let f = r .0 in
         elim (passes-inputs _ _ _ j (r .2)) [ inl e ↦ omega arith | inr e ↦ omega arith ]
 

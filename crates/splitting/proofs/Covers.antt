@@ -1,6 +1,6 @@
 -- The tree covers every setting once, and no move refutes every branch.
 use mathlib.Core.Path.{_≡_, refl, sym, ap, subst, _∙_}
-use mathlib.Core.Logic.{_≢_, inl, inr}
+use mathlib.Core.Logic.{inl, inr}
 use mathlib.Core.Bool.{Bool, true, false}
 use mathlib.Core.List.{List, [], _∷_, _++_}
 use Prim.Native.Nat.{ℕ, zero, suc, _+_, _<_, _≤_}
@@ -9,10 +9,10 @@ use lib.ListN.{length, getD, take}
 use Rattle.std.proofs.shelf.Lists.{append-nil, append-assoc, length-append, length-push, length-take-le, take-more, take-take, take-at, take-append-le}
 use Rattle.std.proofs.shelf.Tests.{cases-lt, cases-order}
 use Rattle.valuation.specs.declared.Value.the-variants.{Unknown, False}
-use Rattle.valuation.proofs.Order.{known, True≢False, unknown≢watched}
+use Rattle.valuation.proofs.Order.{known, unknown≢watched}
 use Rattle.search.specs.Queries.{Query}
 use Rattle.search.specs.Answers.{Outcome, moves, loses, Answer}
-use Rattle.splitting.specs.Tree.{root-at, ways, second, splits, tree}
+use Rattle.splitting.specs.Tree.{root-at, ways, second, tree}
 use Rattle.splitting.specs.Claims.{Node, start, below, End, Every-setting-covered, No-move-refutes}
 use Rattle.splitting.proofs.Trees.{by-tree}
 

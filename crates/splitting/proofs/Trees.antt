@@ -3,14 +3,14 @@ use mathlib.Core.Path.{_≡_, refl, sym, ap, subst, _∙_}
 use mathlib.Core.Logic.{_≢_, inl, inr}
 use mathlib.Core.Bool.{Bool, true, false, cond, _||_}
 use mathlib.Core.List.{List, [], _∷_, _++_, map}
-use Prim.Native.Nat.{ℕ, zero, suc, _+_, _-_, _/_, _^_, _<_, _≤_}
+use Prim.Native.Nat.{ℕ, zero, suc, _+_, _/_, _^_, _<_, _≤_}
 use native.Mathlib.Omega.{arith}
 use native.Mathlib.Nat.{two-pow-succ}
 use native.Mathlib.Numerals.{add-one}
 use lib.Pow.{pow-pos}
 use lib.ListN.{length, getD, replicate}
 use Rattle.std.proofs.shelf.Lists.{append-nil, append-assoc, map-append, length-append, length-map, length-replicate, getD-append-left, getD-past}
-use Rattle.std.proofs.shelf.Tests.{cases-lt, true≢false, or-cases, or-left, or-right}
+use Rattle.std.proofs.shelf.Tests.{cases-lt, or-cases, or-left, or-right}
 use Rattle.valuation.specs.declared.Value.{Value}
 use Rattle.valuation.specs.declared.Value.the-variants.{Unknown, False, True}
 use Rattle.valuation.specs.Three.{of-bool, Below}
@@ -19,11 +19,11 @@ use Rattle.valuation.specs.Sweep.{begin}
 use Rattle.valuation.proofs.Order.{True≢False, unknown≢watched, below-same, below-signed}
 use Rattle.valuation.proofs.Computed.{equations-hold}
 use Rattle.search.specs.Queries.{Query, Sound, nodes, values-under, root-under, Refuted}
-use Rattle.search.specs.Answers.{Outcome, moves, loses, Answer, Right, ceiling, only, Keeps}
+use Rattle.search.specs.Answers.{Outcome, moves, loses, Answer, Right, ceiling, only}
 use Rattle.search.proofs.Cores.{more, stays-refuted}
-use Rattle.splitting.specs.Blame.{core}
 use Rattle.splitting.specs.Tree.{root-at, core-at, by-root, join, second, ways, lost-at, moved-at, tree, splits}
 use Rattle.splitting.specs.Claims.{Splitter-keeps}
+use Rattle.splitting.proofs.Working.{on-inside}
 use Rattle.splitting.proofs.Blamed.{length-core, core-forced, only-below, blame-keeps}
 
 -- both ways on, k variables unset after the next
@@ -196,14 +196,6 @@ module _ (q : Query) (sound : Sound q) where
       among : (n : ℕ) (x y : Bool) → (x ≡ true → y ≡ true) → Below (cond x (F n) Unknown) (cond y (F n) Unknown)
       among n true y h = rw (h refl) (below-same (F n) (F n) refl)
       among n false y h = λ p e. absurd (unknown≢watched p e)
-
-  -- a mark lies inside
-  on-inside : (c : List Bool) (n : ℕ) → getD c n false ≡ true → n < length c
-  on-inside c n on =
-      elim (cases-lt n (length c)) [
-        | inl h ↦ h
-        | inr h ↦ absurd (true≢false (sym on ∙ getD-past c n false h))
-      ]
 
   join-good : (k : ℕ) (s c d : List Bool) → length s + suc k ≡ q .free → Fine k (s ++ (false ∷ [])) (loses c) → Fine k (s ++ (true ∷ [])) (loses d) → Fine (suc k) s (loses (join c d))
   join-good k s c d fits l r = (size, forced, covers)

@@ -2,18 +2,16 @@
 use mathlib.Core.Path.{_≡_}
 use mathlib.Core.Logic.{_≢_, _⊎_}
 use mathlib.Core.Bool.{Bool}
-use mathlib.Core.List.{List, [], _∷_, _++_, map}
+use mathlib.Core.List.{List, [], _∷_, _++_}
 use Prim.Native.Nat.{ℕ, _+_, _/_, _≤_, _<_}
 use lib.ListN.{length, take}
-use Rattle.valuation.specs.declared.Value.{Value}
 use Rattle.valuation.specs.declared.Value.the-variants.{Unknown, False}
-use Rattle.valuation.specs.Three.{of-bool}
-use Rattle.valuation.specs.Circuit.{Pair, Ascending, Values, lit, Valuation, reads}
+use Rattle.valuation.specs.Circuit.{Pair, Ascending, Values, lit, Valuation}
 use Rattle.valuation.specs.Sweep.{From}
-use Rattle.search.specs.Queries.{Query, Sound, root-under}
-use Rattle.search.specs.Answers.{Keeps, only, moves, loses}
+use Rattle.search.specs.Queries.{Query}
+use Rattle.search.specs.Answers.{Keeps, only, loses}
 use Rattle.splitting.specs.Blame.{blames, core}
-use Rattle.splitting.specs.Tree.{root-at, core-at, splits}
+use Rattle.splitting.specs.Tree.{root-at, splits}
 
 -- the splitter keeps what every searcher keeps
 abbrev pub Splitter-keeps : Type 0
