@@ -51,7 +51,7 @@ module _ (P : ℕ → Type 0) (g : Pair) (r : Value) where
   passes-known True l e p q j (inr (inr m)) = absurd m
 
 -- to inputs of the gate
-passes-inputs : (x l : Value) (g : Pair) (j : ℕ) → In j (passes x l g) → (j ≡ g .left / 2) ⊎ (j ≡ g .right / 2)
+pub passes-inputs : (x l : Value) (g : Pair) (j : ℕ) → In j (passes x l g) → (j ≡ g .left / 2) ⊎ (j ≡ g .right / 2)
 passes-inputs Unknown l g j m = absurd m
 passes-inputs False False g j (inl e) = inl e
 passes-inputs False Unknown g j (inl e) = inr e

@@ -3,24 +3,24 @@ use mathlib.Core.Path.{_≡_, refl, sym, ap, ap₂, subst, _∙_}
 use mathlib.Core.Logic.{_≢_, _⊎_, inl, inr}
 use mathlib.Core.Bool.{Bool, true, false, cond, _&&_, _||_}
 use mathlib.Core.List.{List, [], _∷_}
-use Prim.Native.Nat.{ℕ, _+_, _-_, _<_, _≤_}
+use Prim.Native.Nat.{ℕ, _+_, _-_, _/_, _<_, _≤_}
 use native.Mathlib.Omega.{arith}
 use lib.Dec.{ltb}
-use lib.ListN.{length, getD, set}
-use Rattle.std.proofs.shelf.Lists.{ext-getD, getD-set-same}
-use Rattle.std.proofs.shelf.Tests.{cases-eq, cases-lt, and-parts, and-from, or-cases, or-left, or-right, lt-ltb}
+use lib.ListN.{length, getD, set, replicate}
+use Rattle.std.proofs.shelf.Lists.{ext-getD, getD-set-same, getD-replicate, length-replicate}
+use Rattle.std.proofs.shelf.Tests.{cases-eq, cases-lt, and-parts, and-from, or-cases, or-left, or-right, lt-ltb, true≢false}
 use Rattle.valuation.specs.declared.Value.{Value}
 use Rattle.valuation.specs.declared.Value.the-variants.{Unknown, False, True}
 use Rattle.valuation.specs.Circuit.{Pair, gate, Ascending, Values, negated, signed, lit}
-use Rattle.valuation.specs.Sweep.{In, From, begin, go}
+use Rattle.valuation.specs.Sweep.{marked, In, From, begin, go}
 use Rattle.valuation.specs.Reach.{if-unknown}
 use Rattle.valuation.proofs.Order.{unknown≢watched}
 use Rattle.splitting.specs.Blame.{passes, blames, blamed, is-known, core}
 use Rattle.splitting.specs.Tree.{join}
-use Rattle.splitting.specs.Worklist.{seen-count}
-use Rattle.splitting.proofs.Blamed.{gate-low, blamed-exact, blamed-fits, length-core, core-on}
+use Rattle.splitting.specs.Worklist.{seen-count, noted}
+use Rattle.splitting.proofs.Blamed.{passes-inputs, gate-low, blames-gate, blamed-exact, blamed-fits, length-core, core-on}
 use Rattle.splitting.proofs.Trees.{length-join, getD-join}
-use Rattle.splitting.proofs.Working.{on, on-set, set-on, Working, all-seen}
+use Rattle.splitting.proofs.Working.{on, on-inside, on-set, set-on, seen-count-le, seen-count-none, Working, working-same, notes-keep, one-done, all-seen}
 
 pub is-known-true : (x : Value) → x ≢ Unknown → is-known x ≡ true
 is-known-true Unknown k = absurd (k refl)
@@ -111,6 +111,116 @@ module _ (first : ℕ) (gs : List Pair) (F v : Values) (root : ℕ) (asc : Ascen
                 let l = w .listed n (all-seen (blames first gs F v) (root ∷ []) seen order done all (λ j i. elim i [ inl e ↦ rw e begun | inr z ↦ absurd z ]) w (blamed-exact first gs F v asc pos root inside n .0 (p .0))) in
                 subst (on marks) (l .1 .1) (m .new (l .0) (omega (arith, l .1 .0)) (λ u. known-is (F n) (p .1) (ap F (sym (l .1 .1)) ∙ u)))
           ]
+
+-- The blamed nodes while they are gone through: `count` are noted so far, `done` of them gone through.
+pub record Blaming (first : ℕ) (gs : List Pair) (F v : Values) (root : ℕ) (old marks seen : List Bool) (order : List ℕ) (count done : ℕ) : Type 0 where
+  pub counted : count ≡ seen-count seen
+  pub before : done ≤ count
+  pub begun : on seen root
+  pub working : Working (blames first gs F v) (root ∷ []) seen order done
+  pub marking : Marking F (blames first gs F v) (root ∷ []) old marks order done
+
+module _ (first : ℕ) (gs : List Pair) (F v : Values) (root : ℕ) where
+  -- the root is noted first
+  pub blaming-start : (size : ℕ) (old : List Bool) (order order′ : List ℕ) (seen′ : List Bool) (count : ℕ) → root < size → size ≤ length order → seen′ ≡ set (replicate size false) root true →
+      order′ ≡ cond (getD (replicate size false) root false) order (set order 0 root) → count ≡ seen-count seen′ → Blaming first gs F v root old old seen′ order′ count 0
+  blaming-start size old order order′ seen′ count inside room seen-is order-is counted =
+      let none = replicate size false in
+      let long = length-replicate size false in
+      let same : cond (getD none root false) order (set order (seen-count none) root) ≡ order′ = ap (λ n. cond (getD none root false) order (set order n root)) (seen-count-none size) ∙ sym order-is in
+      let noted = notes-keep (blames first gs F v) (root ∷ []) (root ∷ []) none order 0 (λ m i. elim i [ inl e ↦ (omega arith, begin m (inl e)) | inr z ↦ absurd z ]) (omega arith) (omega arith) start in
+      record {
+        counted = counted;
+        before = omega arith;
+        begun = rw seen-is (noted .all root (inl refl));
+        working = working-same (blames first gs F v) (root ∷ []) 0 (sym seen-is) same (noted .working);
+        marking = record { kept = λ n o. o; new = λ i h. absurd (let z : ⊥ = omega arith in z); only = λ n o. inl o };
+      }
+    where
+      none-on : (n : ℕ) → on (replicate size false) n → ⊥
+      none-on n o = true≢false (sym o ∙ getD-replicate size n false false (omega (arith, on-inside (replicate size false) n o, length-replicate size false)))
+
+      start : Working (blames first gs F v) (root ∷ []) (replicate size false) order 0
+      start = record {
+        listed = λ n o. absurd (none-on n o);
+        shown = λ i h. absurd (let z : ⊥ = omega (arith, seen-count-none size) in z);
+        reached = λ n o. absurd (none-on n o);
+        closed = λ i h. absurd (let z : ⊥ = omega arith in z);
+      }
+
+  module _ (old marks seen : List Bool) (order : List ℕ) (count done : ℕ) (b : Blaming first gs F v root old marks seen order count done) where
+    -- the node gone through next
+    pub blaming-way : done < count → From (blames first gs F v) (root ∷ []) (getD order done 0)
+    blaming-way h = b .working .reached _ (b .working .shown done (omega (arith, b .counted)))
+
+    -- the order lies within the flags, for the pass that takes them away
+    pub blaming-inside : (i : ℕ) → i < count → getD order i 0 < length seen
+    blaming-inside i h = on-inside seen _ (b .working .shown i (omega (arith, b .counted)))
+
+    pub blaming-listed : (n : ℕ) → on seen n → (i : ℕ) × ((i < count) × (getD order i 0 ≡ n))
+    blaming-listed n o = let l = b .working .listed n o in (l .0, (omega (arith, l .1 .0, b .counted), l .1 .1))
+
+    module _ (node : ℕ) (is : getD order done 0 ≡ node) (less : done < count) (room : length seen ≤ length order) where
+      -- a node that passes the blame on, to nodes that are noted then
+      passed : (ns : List ℕ) → blames first gs F v node ≡ ns → ((m : ℕ) → In m ns → m < length seen) → (seen′ : List Bool) (order′ : List ℕ) (count′ : ℕ) (marks′ : List Bool) →
+          seen′ ≡ marked ns seen → order′ ≡ noted ns seen order → count′ ≡ seen-count seen′ → Marking F (blames first gs F v) (root ∷ []) old marks′ order′ (done + 1) → Blaming first gs F v root old marks′ seen′ order′ count′ (done + 1)
+      passed ns leads fits seen′ order′ count′ marks′ seen-is order-is counted marking =
+          let one = one-done (blames first gs F v) (root ∷ []) seen order done node is (λ m i. fits m (subst (In m) leads i)) room (omega (arith, b .counted)) (b .working) in
+          let seen-same : marked (blames first gs F v node) seen ≡ seen′ = ap (λ xs. marked xs seen) leads ∙ sym seen-is in
+          let order-same : noted (blames first gs F v node) seen order ≡ order′ = ap (λ xs. noted xs seen order) leads ∙ sym order-is in
+          record {
+            counted = counted;
+            before = omega (arith, b .counted, one .grows, ap seen-count seen-same);
+            begun = subst (λ xs. on xs root) seen-same (one .kept root (b .begun));
+            working = working-same (blames first gs F v) (root ∷ []) (done + 1) seen-same order-same (one .working);
+            marking = marking;
+          }
+
+      -- a forced node is marked and not entered
+      pub blaming-forced : F node ≢ Unknown → node < length marks → Blaming first gs F v root old (set marks node true) seen order count (done + 1)
+      blaming-forced forced inside =
+          passed [] (blames-forced first gs F v node forced) (λ m z. absurd z) seen order count (set marks node true) refl refl (b .counted)
+          (marking-forced F (blames first gs F v) (root ∷ []) old marks order done node is forced (subst (From (blames first gs F v) (root ∷ [])) is (blaming-way less)) inside (b .marking))
+
+      -- an input that is not forced passes nothing on
+      pub blaming-input : F node ≡ Unknown → node < first → Blaming first gs F v root old marks seen order count (done + 1)
+      blaming-input free low =
+          passed [] (blames-input first gs F v node low) (λ m z. absurd z) seen order count marks refl refl (b .counted)
+          (marking-past F (blames first gs F v) (root ∷ []) old marks order done node is order (λ i h. refl) free (b .marking))
+
+      -- a gate that is not forced passes it on by its value
+      pub blaming-gate : (k : ℕ) → node ≡ first + k → F node ≡ Unknown → (gate gs k .left / 2 < length seen) × (gate gs k .right / 2 < length seen) → (seen′ : List Bool) (order′ : List ℕ) (count′ : ℕ) →
+          seen′ ≡ marked (passes (v node) (lit v (gate gs k .left)) (gate gs k)) seen → order′ ≡ noted (passes (v node) (lit v (gate gs k .left)) (gate gs k)) seen order → count′ ≡ seen-count seen′ →
+          Blaming first gs F v root old marks seen′ order′ count′ (done + 1)
+      blaming-gate k at free inside seen′ order′ count′ seen-is order-is counted =
+          let ns = passes (v node) (lit v (gate gs k .left)) (gate gs k) in
+          let leads : blames first gs F v node ≡ ns = ap (blames first gs F v) at ∙ blames-gate first gs F v k (ap F (sym at) ∙ free) ∙ ap (λ n. passes (v n) (lit v (gate gs k .left)) (gate gs k)) (sym at) in
+          let fits : (m : ℕ) → In m ns → m < length seen = λ m i. elim (passes-inputs (v node) (lit v (gate gs k .left)) (gate gs k) m i) [ inl e ↦ omega (arith, inside .0) | inr e ↦ omega (arith, inside .1) ] in
+          let noting = notes-keep (blames first gs F v) (root ∷ []) ns seen order done (λ m i. (fits m i, go node m (subst (From (blames first gs F v) (root ∷ [])) is (blaming-way less)) (subst (In m) (sym leads) i))) room (omega (arith, b .counted)) (b .working) in
+          passed ns leads fits seen′ order′ count′ marks seen-is order-is counted
+          (marking-past F (blames first gs F v) (root ∷ []) old marks order done node is order′ (λ i h. ap (λ xs. getD xs i 0) order-is ∙ noting .front i (omega (arith, b .counted))) free (b .marking))
+
+  -- what a loop has of it before it goes on: there is room, and the next node is one of the circuit
+  pub blaming-ready : Ascending first gs → 0 < first → root < first + length gs → (size : ℕ) (old marks seen : List Bool) (order : List ℕ) (count done : ℕ) → size ≡ first + length gs →
+      Blaming first gs F v root old marks seen order count done → (count ≤ length seen) × (done < count → getD order done 0 < size) × Blaming first gs F v root old marks seen order count done
+  blaming-ready asc pos inside size old marks seen order count done is b = (
+    omega (arith, b .counted, seen-count-le seen),
+    λ h. omega (arith, blamed-fits first gs F v asc pos root (blaming-way old marks seen order count done b h)),
+    b,
+  )
+
+  pub blaming-same : {old marks marks′ seen seen′ : List Bool} {order order′ : List ℕ} {count count′ done : ℕ} → marks′ ≡ marks → seen′ ≡ seen → order′ ≡ order → count′ ≡ count →
+      Blaming first gs F v root old marks seen order count done → Blaming first gs F v root old marks′ seen′ order′ count′ done
+  blaming-same {old} {marks} {seen} {seen′} {order} {order′} {count} {count′} {done} m s o n b =
+      subst (λ ms. Blaming first gs F v root old ms seen′ order′ count′ done) (sym m)
+      (subst (λ xs. Blaming first gs F v root old marks xs order′ count′ done) (sym s)
+      (subst (λ xs. Blaming first gs F v root old marks seen xs count′ done) (sym o) (subst (λ k. Blaming first gs F v root old marks seen order k done) (sym n) b)))
+
+  -- all gone through
+  pub blaming-end : Ascending first gs → 0 < first → root < first + length gs → (old marks seen : List Bool) (order : List ℕ) (count done : ℕ) → length old ≡ first + length gs → length marks ≡ length old → count ≤ done →
+      Blaming first gs F v root old marks seen order count done → marks ≡ join old (core first gs F v root)
+  blaming-end asc pos inside old marks seen order count done long same all b =
+      core-joined first gs F v root asc pos inside seen order done old marks long same (omega (arith, b .counted)) (b .begun) (b .working) (b .marking)
 
 -- the core rests on the values up to the root's node
 module _ (first : ℕ) (gs : List Pair) (F : Values) (root : ℕ) (asc : Ascending first gs) (pos : 0 < first) (inside : root < first + length gs) where

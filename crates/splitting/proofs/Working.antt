@@ -64,6 +64,9 @@ pub record Working (next : ℕ → List ℕ) (start : List ℕ) (seen : List Boo
   pub closed : (i : ℕ) → i < done → (j : ℕ) → In j (next (getD order i 0)) → on seen j
 
 module _ (next : ℕ → List ℕ) (start : List ℕ) where
+  pub working-same : {seen seen′ : List Bool} {order order′ : List ℕ} (done : ℕ) → seen ≡ seen′ → order ≡ order′ → Working next start seen order done → Working next start seen′ order′ done
+  working-same {seen′} {order} done s o w = subst (λ xs. Working next start seen′ xs done) o (subst (λ xs. Working next start xs order done) s w)
+
   -- one place noted
   module _ (seen : List Bool) (order : List ℕ) (n done : ℕ) (inside : n < length seen) (room : length seen ≤ length order) (before : done ≤ seen-count seen) (way : From next start n) where
     abbrev order′ : List ℕ
