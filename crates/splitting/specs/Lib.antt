@@ -1,0 +1,5 @@
+pub mod Blame
+pub mod Tree
+pub mod Worklist
+pub mod Steps
+pub mod Claims
