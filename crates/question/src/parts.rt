@@ -28,6 +28,12 @@ impl Question {
         ensures records { λ r. ⌜ now r ≡ gates-of (now (self .entry)) ⌝ }
         ensures literals { λ r. ⌜ pairs (now r) ≡ formula (now (self .entry)) .gates ⌝ }
     {
+        self.records()
+    }
+
+    fn records(&self) -> &[Gate]
+        ensures { λ r. ⌜ now r ≡ gates-of (now (self .entry)) ⌝ }
+    {
         &self.table[0..self.gates]
     }
 
