@@ -1,1 +1,3 @@
 pub mod Cores
+pub mod Marks
+pub mod Shown

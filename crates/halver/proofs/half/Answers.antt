@@ -1,13 +1,9 @@
-use mathlib.Core.Path.{_≡_, sym, ap, subst, _∙_}
+use mathlib.Core.Path.{sym, ap, subst, _∙_}
 use mathlib.Core.Bool.{false}
-use Prim.Native.Nat.{_+_, _-_}
-use lib.ListN.{length, set, take, drop, replicate}
-use Rattle.std.proofs.shelf.Lists.{length-set, set-set, set-getD}
-use Rattle.valuation.specs.declared.Value.the-variants.{Unknown}
+use lib.ListN.{length, replicate}
+use Rattle.std.proofs.shelf.Lists.{length-set}
 use Rattle.search.specs.Queries.{Query, Sound}
 use Rattle.search.specs.Asking.{asked}
-use Rattle.search.specs.Answers.{Answer, reply-of, marks-after}
-use Rattle.halving.specs.Halving.{under}
 use Rattle.halving.proofs.Under.{put-back, under-sound}
 use Rattle.halving.proofs.Replies.{tail-length, tail-unset, asked-under, half-reply, half-marks, half-moves, half-stays}
 use Rattle.halver.proofs.half.Needs as need
