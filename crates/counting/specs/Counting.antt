@@ -2,7 +2,7 @@
 use mathlib.Core.Path.{_≡_}
 use mathlib.Core.Bool.{Bool, true, false, cond, _&&_}
 use mathlib.Core.List.{List, [], _∷_, map}
-use Prim.Native.Nat.{ℕ, zero, suc, _+_, _*_, _/_, _^_, _<_}
+use Prim.Native.Nat.{ℕ, zero, suc, min, _+_, _*_, _/_, _^_, _<_}
 use lib.ListN.{length, getD}
 use Rattle.std.specs.Iters.{counting}
 use Rattle.std.specs.declared.option.Option.{Option}
@@ -41,6 +41,10 @@ group-of t = t / 64
 -- how many groups the cases of f variables have: with f below 6 a part of one
 abbrev pub groups : ℕ → ℕ
 groups f = group-of (2 ^ f + 63)
+
+-- how many cases of a group count
+abbrev pub group-size : ℕ → ℕ
+group-size f = min 64 (2 ^ f)
 
 -- whether a value is known
 abbrev pub is-known : Value → Bool
