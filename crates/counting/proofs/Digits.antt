@@ -1,17 +1,19 @@
 -- Bits of numbers, and of the number of a case in a group of 64.
-use mathlib.Core.Path.{_≡_, refl, sym, ap, _∙_}
+use mathlib.Core.Path.{_≡_, refl, sym, ap, ap₂, _∙_}
 use mathlib.Core.Bool.{Bool, true, false, cond, not, _&&_}
 use mathlib.Core.List.{List, [], _∷_}
-use Prim.Native.Nat.{ℕ, zero, suc, _+_, _*_, _/_, _%_, _^_, _<_}
+use Prim.Native.Nat.{ℕ, zero, suc, _+_, _-_, _*_, _/_, _%_, _^_, _<_, _≤_}
 use native.Mathlib.Decide.{ℕ-discrete}
 use native.Mathlib.Nat.{div-one}
 use native.Mathlib.Numerals.{one-add}
 use native.Mathlib.Omega.{arith}
+use lib.Bits.{bitAnd}
 use lib.Dec.{eqb, ltb}
 use lib.ListN.{getD}
-use Rattle.std.proofs.shelf.Bits.{shr-shr, pow-add}
-use Rattle.std.proofs.shelf.Tests.{and-parts, false≢true}
+use Rattle.std.proofs.shelf.Bits.{and-mask, shr-shr, pow-add, pow-pos}
+use Rattle.std.proofs.shelf.Tests.{and-parts, lt-ltb, eq-eqb, ne-eqb, false≢true}
 use Rattle.valuation.specs.Rails.{on}
+use Rattle.valuation.proofs.Masks.{on-and}
 
 pub on-zero : (x : ℕ) → on x 0 ≡ eqb (x % 2) 1
 on-zero x = ap (λ n. eqb (n % 2) 1) (div-one x)
@@ -80,3 +82,47 @@ few-cases = 0x1 ∷ 0x3 ∷ 0xf ∷ 0xff ∷ 0xffff ∷ 0xffff_ffff ∷ []
 
 pub few-bits : (f c : ℕ) → f < 6 → c < 64 → on (getD few-cases f 0) c ≡ ltb c (2 ^ f)
 few-bits = rows-are few-cases 6 (λ f c. ltb c (2 ^ f)) refl
+
+-- with six variables or more, all 64 count
+pub all-count : (f c : ℕ) → 6 ≤ f → c < 64 → ltb c (2 ^ f) ≡ true
+all-count f c h l =
+    let e : 2 ^ f ≡ 64 * 2 ^ (f - 6) = ap (λ n. 2 ^ n) (omega arith) ∙ pow-add 2 6 (f - 6) in
+    lt-ltb c (2 ^ f) (omega (arith, pow-pos (f - 6)))
+
+-- a bit, as a shift and a mask find it ..
+module _ (x k : ℕ) where
+  last-bit : bitAnd (x / 2 ^ k) 1 ≡ x / 2 ^ k % 2
+  last-bit = and-mask (x / 2 ^ k) 1
+
+  pub bit-on : bitAnd (x / 2 ^ k) 1 ≡ 1 → on x k ≡ true
+  bit-on e = eq-eqb _ 1 (sym last-bit ∙ e)
+
+  pub bit-off : (bitAnd (x / 2 ^ k) 1 ≡ 1 → ⊥) → on x k ≡ false
+  bit-off e = ne-eqb _ 1 (λ o. e (last-bit ∙ o))
+
+-- .. and bit k of a case in the group's number
+module _ (g c k : ℕ) (high : 6 ≤ k) (within : c < 64) where
+  pub group-on : bitAnd (g / 2 ^ (k - 6)) 1 ≡ 1 → on (64 * g + c) k ≡ true
+  group-on e = on-high g c (k - 6) k within (omega arith) ∙ bit-on g (k - 6) e
+
+  pub group-off : (bitAnd (g / 2 ^ (k - 6)) 1 ≡ 1 → ⊥) → on (64 * g + c) k ≡ false
+  group-off e = on-high g c (k - 6) k within (omega arith) ∙ bit-off g (k - 6) e
+
+-- the other bits
+pub on-not : (w x c : ℕ) → x < 2 ^ w → c < w → on (2 ^ w - 1 - x) c ≡ not (on x c)
+on-not zero x c h l = absurd (omega arith)
+on-not (suc w) x zero h l = on-zero (2 ^ suc w - 1 - x) ∙ other (2 ^ suc w - 1 - x) x (omega (arith, pow-suc w)) ∙ ap not (sym (on-zero x))
+  where
+    other : (y x : ℕ) → y % 2 + x % 2 ≡ 1 → eqb (y % 2) 1 ≡ not (eqb (x % 2) 1)
+    other y x e =
+        elim (ℕ-discrete (x % 2) 1) [
+          | yes o ↦ ne-eqb (y % 2) 1 (λ i. omega arith) ∙ sym (ap not (eq-eqb (x % 2) 1 o))
+          | no o ↦ eq-eqb (y % 2) 1 (omega arith) ∙ sym (ap not (ne-eqb (x % 2) 1 o))
+        ]
+on-not (suc w) x (suc c) h l =
+    let half : (2 ^ suc w - 1 - x) / 2 ≡ 2 ^ w - 1 - x / 2 = omega (arith, pow-suc w) in
+    on-suc (2 ^ suc w - 1 - x) c ∙ ap (λ y. on y c) half ∙ on-not w (x / 2) c (omega (arith, pow-suc w)) (omega arith) ∙ ap not (sym (on-suc x c))
+
+-- the bits of one word that another has not
+pub on-without : (a b c : ℕ) (p q : Bool) → b < 2 ^ 64 → c < 64 → on a c ≡ p → on b c ≡ q → on (bitAnd a (2 ^ 64 - 1 - b)) c ≡ (p && not q)
+on-without a b c p q h l e o = on-and a (2 ^ 64 - 1 - b) c ∙ ap₂ _&&_ e (on-not 64 b c h l ∙ ap not o)

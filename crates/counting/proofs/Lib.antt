@@ -3,3 +3,4 @@ pub mod Lowest
 pub mod Cases
 pub mod Kept
 pub mod Groups
+pub mod Inputs

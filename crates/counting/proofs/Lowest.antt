@@ -2,18 +2,20 @@
 use mathlib.Core.Path.{_≡_, refl, sym, ap, subst, _∙_}
 use mathlib.Core.Bool.{Bool, true, false, cond}
 use mathlib.Core.Logic.{_⊎_, inl, inr}
+use mathlib.Core.List.{List}
 use Prim.Native.Nat.{ℕ, zero, suc, _+_, _-_, _/_, _%_, _^_, _<_, _≤_}
 use native.Mathlib.Nat.{zero-add, div-one}
 use native.Mathlib.Numerals.{add-one, one-add}
 use native.Mathlib.Omega.{arith}
 use lib.Dec.{eqb}
 use lib.Bits.{bitAnd}
+use lib.ListN.{getD}
 use lib.Pow.{mod-mod-pow}
 use Rattle.std.proofs.shelf.Bits.{and-mask, shr-shr, field-of}
-use Rattle.std.proofs.shelf.Tests.{cases-bool, cond-true, cond-false}
+use Rattle.std.proofs.shelf.Tests.{eqb-true, cases-bool, cond-true, cond-false}
 use Rattle.valuation.specs.Rails.{on}
 use Rattle.counting.specs.Lowest.{lowest}
-use Rattle.counting.proofs.Digits.{on-zero, on-suc}
+use Rattle.counting.proofs.Digits.{on-zero, on-suc, each, each-below}
 
 -- n is m, below a; or m is a, and n is k further on
 abbrev pub Parts : ℕ → ℕ → ℕ → ℕ → Type 0
@@ -74,3 +76,7 @@ lowest-here (suc w) x h = elim (cases-bool (eqb (x % 2) 1)) [
       let is = cond-false (eqb (x % 2) 1) 0 (suc (lowest w (x / 2))) e in
       ap (on x) is ∙ on-suc x (lowest w (x / 2)) ∙ lowest-here w (x / 2) (omega (arith, is))
 ]
+
+-- a table of the lowest ones of bytes, tested at all of its entries
+pub table-rule : (entries : List ℕ) → each 256 (λ k. eqb (getD entries k 0) (lowest 8 k)) ≡ true → (x : ℕ) → x < 256 → getD entries x 0 ≡ lowest 8 x
+table-rule entries e x h = eqb-true (getD entries x 0) (lowest 8 x) (each-below 256 (λ k. eqb (getD entries k 0) (lowest 8 k)) e x h)
