@@ -27,9 +27,9 @@ returns-in-Move g c =
     record {
       same = s .same;
       put-back = put-back q (c .pre .sound) (c .pre .some) (c .args .first) (c .query-reply .last .forced) (c .value-of-value .result) (s .put-back);
-      reply = c .query-reply .ensures .reply ∙ half-reply m q (c .args .first) _ below (c .args .ask .allowance);
-      range = half-moves m q (c .args .first) _ below (c .args .ask .allowance) (c .args .range .now) (c .query-reply .last .range) _ (c .pre .some) long (s .range) (c .value-of-value .result) _ (c .value-of-value .ensures) (s .reply);
-      marks = s .marks ∙ half-marks m q (c .args .first) _ below (c .args .ask .allowance) _ _ (length-set (c .args .forced .now) (c .args .ask .start) (c .value-of-value .result));
+      reply = c .query-reply .ensures .reply ∙ half-reply m q (c .args .first) _ below (c .args .allowance);
+      range = half-moves m q (c .args .first) _ below (c .args .allowance) (c .args .range .now) (c .query-reply .last .range) _ (c .pre .some) long (s .range) (c .value-of-value .result) _ (c .value-of-value .ensures) (s .reply);
+      marks = s .marks ∙ half-marks m q (c .args .first) _ below (c .args .allowance) _ _ (length-set (c .args .forced .now) (c .args .ask .start) (c .value-of-value .result));
     }
 
 pub returns-in-rest : need.returns-in-rest
@@ -42,7 +42,7 @@ returns-in-rest g c =
     record {
       same = s .same;
       put-back = put-back q (c .pre .sound) (c .pre .some) (c .args .first) (c .query-reply .last .forced) (c .value-of-value .result) (s .put-back);
-      reply = s .reply ∙ half-reply m q (c .args .first) _ below (c .args .ask .allowance);
-      range = half-stays m q (c .args .first) _ below (c .args .ask .allowance) (c .args .range .now) (c .query-reply .last .range) _ (c .pre .some) long (s .range) (c .query-reply .result) (s .reply) (c .in-rest .not-Move) (c .pre .unset);
-      marks = s .marks ∙ half-marks m q (c .args .first) _ below (c .args .ask .allowance) _ _ (length-set (c .args .forced .now) (c .args .ask .start) (c .value-of-value .result));
+      reply = s .reply ∙ half-reply m q (c .args .first) _ below (c .args .allowance);
+      range = half-stays m q (c .args .first) _ below (c .args .allowance) (c .args .range .now) (c .query-reply .last .range) _ (c .pre .some) long (s .range) (c .query-reply .result) (s .reply) (c .in-rest .not-Move) (c .pre .unset);
+      marks = s .marks ∙ half-marks m q (c .args .first) _ below (c .args .allowance) _ _ (length-set (c .args .forced .now) (c .args .ask .start) (c .value-of-value .result));
     }
