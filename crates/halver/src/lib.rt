@@ -1,7 +1,7 @@
 // The halver: a searcher over another, which it asks once for each value of the first free variable.
 ghost use mathlib.Core.Path.{_≡_};
 ghost use mathlib.Core.Bool.{false};
-ghost use Prim.Native.Nat.{ℕ, _+_, _^_, _<_, _≤_};
+ghost use Prim.Native.Nat.{_+_, _^_, _<_, _≤_};
 ghost use lib.ListN.{length, replicate, take};
 ghost use Rattle.std.specs.Of.Vec.{vec-items, vec-len};
 ghost use Rattle.std.specs.Results.{Cases};
@@ -80,10 +80,11 @@ fn value_of(bit: bool) -> Value
     if bit { Value::True } else { Value::False }
 }
 
-// Forces the first variable, asks below for the others, and puts the forced entry back: the variable was not forced.
+// Forces the first variable, asks below for the others with an allowance, and puts the forced entry back: the variable was not forced.
 fn half<S: Searcher>(
     below: &mut S,
     ask: Ask<'_>,
+    allowance: u64,
     first: bool,
     forced: &mut [Value],
     range: &mut [Value],
@@ -95,13 +96,14 @@ fn half<S: Searcher>(
     requires unmarked { ⌜ now marks ≡ replicate (length (now forced)) false ⌝ }
     ensures same { λ _. ⌜ S·Searcher .meaning (now (below .exit)) ≡ S·Searcher .meaning (now (below .entry)) ⌝ }
     ensures put_back { λ _. ⌜ now (forced .exit) ≡ now (forced .entry) ⌝ }
-    ensures reply { λ r. ⌜ r ≡ reply-of (halfOf (S·Searcher .meaning (now (below .entry))) (asked (ask .entry) (now (forced .entry)) (length (now (range .entry)))) first) (ask .entry .allowance) ⌝ }
-    ensures range { λ _. ⌜ now (range .exit) ≡ range-after (halfOf (S·Searcher .meaning (now (below .entry))) (asked (ask .entry) (now (forced .entry)) (length (now (range .entry)))) first) (ask .entry .allowance) (length (now (range .entry))) ⌝ }
-    ensures marks { λ _. ⌜ now (marks .exit) ≡ marks-after (halfOf (S·Searcher .meaning (now (below .entry))) (asked (ask .entry) (now (forced .entry)) (length (now (range .entry)))) first) (ask .entry .allowance) (length (now (forced .entry))) ⌝ }
+    ensures reply { λ r. ⌜ r ≡ reply-of (halfOf (S·Searcher .meaning (now (below .entry))) (asked (ask .entry) (now (forced .entry)) (length (now (range .entry)))) first) allowance ⌝ }
+    ensures range { λ _. ⌜ now (range .exit) ≡ range-after (halfOf (S·Searcher .meaning (now (below .entry))) (asked (ask .entry) (now (forced .entry)) (length (now (range .entry)))) first) allowance (length (now (range .entry))) ⌝ }
+    ensures marks { λ _. ⌜ now (marks .exit) ≡ marks-after (halfOf (S·Searcher .meaning (now (below .entry))) (asked (ask .entry) (now (forced .entry)) (length (now (range .entry)))) first) allowance (length (now (forced .entry))) ⌝ }
 {
     let value = value_of(first);
     let rest = Ask {
         start: ask.start + 1,
+        allowance,
         ..ask
     };
     forced[ask.start] = value;
@@ -152,27 +154,15 @@ pub impl<S: Searcher> Searcher for Halver<S> as HalverSearcher {
             return Reply::Spent;
         }
         let left = ask.allowance - 1;
-        let first = half(
-            &mut self.below,
-            Ask {
-                allowance: left,
-                ..ask
-            },
-            false,
-            forced,
-            range,
-            marks,
-        );
+        let first = half(&mut self.below, ask, left, false, forced, range, marks);
         let Reply::NoMove(need) = first else {
             return later(1, first);
         };
         self.core.take_over(marks);
         let second = half(
             &mut self.below,
-            Ask {
-                allowance: left - need,
-                ..ask
-            },
+            ask,
+            left - need,
             true,
             forced,
             range,

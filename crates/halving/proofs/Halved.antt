@@ -8,14 +8,15 @@ use native.Mathlib.Omega.{arith}
 use lib.Dec.{eqb}
 use lib.ListN.{length, getD}
 use Rattle.std.specs.Iters.{counting}
-use Rattle.std.proofs.shelf.Lists.{getD-set-same, getD-set-other, getD-past, length-set}
+use Rattle.std.proofs.shelf.Lists.{getD-set-same, getD-set-other, length-set}
 use Rattle.std.proofs.shelf.Bits.{pow-add, pow-pos}
 use Rattle.std.proofs.shelf.Counted.{length-map-counting, getD-map-counting}
-use Rattle.std.proofs.shelf.Tests.{cases-eq, cases-lt, or-cases, or-left, or-right, false≢true, eq-eqb, ne-eqb, cond-true, cond-false}
+use Rattle.std.proofs.shelf.Tests.{cases-eq, or-cases, or-left, or-right, false≢true, eq-eqb, ne-eqb, cond-true, cond-false}
 use Rattle.valuation.specs.declared.Value.the-variants.{Unknown}
 use Rattle.valuation.specs.Three.{Below}
 use Rattle.valuation.specs.Circuit.{Values, reads}
 use Rattle.valuation.proofs.Order.{below-same, unknown≢watched}
+use Rattle.search.proofs.Marks.{on-inside}
 use Rattle.search.specs.Queries.{Query, Sound, nodes, Refuted}
 use Rattle.search.specs.Answers.{Outcome, moves, loses, Answer, ceiling, only, Right}
 use Rattle.halving.specs.Halving.{under, with-first, half, joined, after-loss, either, halves, Halves-keep}
@@ -31,14 +32,6 @@ joined-out : (node : ℕ) (xs ys : List Bool) (n : ℕ) → n ≡ node → n < l
 joined-out node xs ys n e h =
     ap (λ k. getD (joined node xs ys) k false) e
     ∙ getD-set-same (map (λ n. getD xs n false || getD ys n false) (counting 0 (length ys))) node false false (omega (arith, length-map-counting (λ n. getD xs n false || getD ys n false) 0 (length ys)))
-
--- a mark that is on stands in the list
-on-inside : (xs : List Bool) (n : ℕ) → getD xs n false ≡ true → n < length xs
-on-inside xs n h =
-    elim (cases-lt n (length xs)) [
-      | inl l ↦ l
-      | inr l ↦ absurd (false≢true (sym (getD-past xs n false l) ∙ h))
-    ]
 
 module _ (q : Query) (sound : Sound q) (some : 0 < q .free) where
   -- the marks of one half say the same with the node not marked: it is forced there by itself

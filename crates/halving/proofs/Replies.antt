@@ -9,35 +9,20 @@ use lib.Dec.{ltb}
 use lib.ListN.{length, getD, set, take, drop, replicate}
 use borrow.Rule.Slice.PartMut.{putMid}
 use Rattle.std.proofs.shelf.Lists.{take-at, take-take, drop-all, take-rest, drop-replicate, length-drop}
-use Rattle.std.proofs.shelf.Tests.{cases-lt, lt-ltb, le-ltb, ltb-false, cond-true, cond-false}
+use Rattle.std.proofs.shelf.Tests.{cases-lt, ltb-false}
 use Rattle.valuation.specs.declared.Value.{Value}
 use Rattle.valuation.specs.declared.Value.the-variants.{Unknown}
 use Rattle.valuation.specs.Three.{of-bool}
 use Rattle.search.specs.declared.Reply.{Reply}
 use Rattle.search.specs.declared.Reply.the-variants.{Move, NoMove, Spent}
 use Rattle.search.specs.Queries.{Query}
+use Rattle.search.proofs.Shown.{Shown, spent, enough}
 use Rattle.search.specs.Answers.{Outcome, moves, loses, Answer, paid, reply-of, setting-of, range-after, core-of, marks-after}
-use Rattle.halving.specs.Halving.{under, with-first, half, joined, after-loss, either}
+use Rattle.halving.specs.Halving.{under, with-first, half, joined, either}
 use Rattle.halving.specs.Replies.{later, steps-of}
 
 abbrev answer : Outcome → ℕ → Answer
 answer o n = record { outcome = o; need = n }
-
--- what an answer comes to: the reply, the range and the marks
-pub record Shown (a : Answer) (allowance f nodes : ℕ) (r : Reply) (xs : List Value) (ms : List Bool) : Type 0 where
-  pub reply : r ≡ reply-of a allowance
-  pub range : xs ≡ range-after a allowance f
-  pub marks : ms ≡ marks-after a allowance nodes
-
-pub spent : (a : Answer) (allowance f nodes : ℕ) → allowance < a .need → Shown a allowance f nodes Spent (replicate f Unknown) (replicate nodes false)
-spent a allowance f nodes h =
-    let t = lt-ltb allowance (a .need) h in
-    record { reply = sym (cond-true _ _ _ t); range = sym (cond-true _ _ _ t); marks = sym (cond-true _ _ _ t) }
-
-pub enough : (a : Answer) (allowance f nodes : ℕ) → a .need ≤ allowance → Shown a allowance f nodes (paid (a .outcome) (a .need)) (setting-of (a .outcome) f) (core-of (a .outcome) nodes)
-enough a allowance f nodes h =
-    let t = le-ltb allowance (a .need) h in
-    record { reply = sym (cond-false _ _ _ t); range = sym (cond-false _ _ _ t); marks = sym (cond-false _ _ _ t) }
 
 carried : {a : Answer} {allowance f nodes : ℕ} {r s : Reply} {xs ys : List Value} {ms ns : List Bool} → Shown a allowance f nodes r xs ms → s ≡ r → ys ≡ xs → ns ≡ ms → Shown a allowance f nodes s ys ns
 carried h r x m = record { reply = r ∙ h .reply; range = x ∙ h .range; marks = m ∙ h .marks }
@@ -132,8 +117,8 @@ module _ (node f nodes : ℕ) where
   more (loses core) n second = omega arith
 
   -- no step is left
-  pub at-once : (o : Outcome) (n : ℕ) (second : Answer) → Shown (either node o n second) 0 f nodes Spent (replicate f Unknown) (replicate nodes false)
-  at-once o n second = spent (either node o n second) 0 f nodes (omega (arith, more o n second))
+  pub at-once : (o : Outcome) (n : ℕ) (second : Answer) (allowance : ℕ) → allowance ≡ 0 → Shown (either node o n second) allowance f nodes Spent (replicate f Unknown) (replicate nodes false)
+  at-once o n second allowance e = spent (either node o n second) allowance f nodes (omega (arith, more o n second))
 
   module _ (allowance left : ℕ) (one : allowance ≡ 1 + left) where
     -- a first half that is not lost decides
@@ -152,7 +137,7 @@ module _ (node f nodes : ℕ) where
             carried (enough (answer (moves s) (1 + n)) allowance f nodes (omega arith)) (ap (later 1) (first .reply ∙ sym (e .reply))) (first .range ∙ sym (e .range)) (first .marks ∙ sym (e .marks))
         decided (loses core) first h = absurd (other n (first .reply ∙ sym (enough (answer (loses core) n) left f nodes h .reply)))
 
-    -- after a lost first half the second decides; z is the marks after that
+    -- after a lost first half the second decides; zs is the marks in the end
     pub by-second : (o : Outcome) (n : ℕ) (second : Answer) (need : ℕ) (xs : List Value) (ms : List Bool) → Shown (answer o n) left f nodes (NoMove need) xs ms →
         (r : Reply) (ys : List Value) (ns zs : List Bool) → Shown second (left - need) f nodes r ys ns →
         ((k : ℕ) → r ≡ NoMove k → zs ≡ joined node ms ns) → (((k : ℕ) → r ≡ NoMove k → ⊥) → zs ≡ ns) →

@@ -1,2 +1,4 @@
 pub mod Cores
 pub mod Examples
+pub mod Marks
+pub mod Shown

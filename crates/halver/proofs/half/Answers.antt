@@ -1,13 +1,9 @@
-use mathlib.Core.Path.{_≡_, sym, ap, subst, _∙_}
+use mathlib.Core.Path.{sym, ap, subst, _∙_}
 use mathlib.Core.Bool.{false}
-use Prim.Native.Nat.{_+_, _-_}
-use lib.ListN.{length, set, take, drop, replicate}
-use Rattle.std.proofs.shelf.Lists.{length-set, set-set, set-getD}
-use Rattle.valuation.specs.declared.Value.the-variants.{Unknown}
+use lib.ListN.{length, replicate}
+use Rattle.std.proofs.shelf.Lists.{length-set}
 use Rattle.search.specs.Queries.{Query, Sound}
 use Rattle.search.specs.Asking.{asked}
-use Rattle.search.specs.Answers.{Answer, reply-of, marks-after}
-use Rattle.halving.specs.Halving.{under}
 use Rattle.halving.proofs.Under.{put-back, under-sound}
 use Rattle.halving.proofs.Replies.{tail-length, tail-unset, asked-under, half-reply, half-marks, half-moves, half-stays}
 use Rattle.halver.proofs.half.Needs as need
@@ -31,9 +27,9 @@ returns-in-Move g c =
     record {
       same = s .same;
       put-back = put-back q (c .pre .sound) (c .pre .some) (c .args .first) (c .query-reply .last .forced) (c .value-of-value .result) (s .put-back);
-      reply = c .query-reply .ensures .reply ∙ half-reply m q (c .args .first) _ below (c .args .ask .allowance);
-      range = half-moves m q (c .args .first) _ below (c .args .ask .allowance) (c .args .range .now) (c .query-reply .last .range) _ (c .pre .some) long (s .range) (c .value-of-value .result) _ (c .value-of-value .ensures) (s .reply);
-      marks = s .marks ∙ half-marks m q (c .args .first) _ below (c .args .ask .allowance) _ _ (length-set (c .args .forced .now) (c .args .ask .start) (c .value-of-value .result));
+      reply = c .query-reply .ensures .reply ∙ half-reply m q (c .args .first) _ below (c .args .allowance);
+      range = half-moves m q (c .args .first) _ below (c .args .allowance) (c .args .range .now) (c .query-reply .last .range) _ (c .pre .some) long (s .range) (c .value-of-value .result) _ (c .value-of-value .ensures) (s .reply);
+      marks = s .marks ∙ half-marks m q (c .args .first) _ below (c .args .allowance) _ _ (length-set (c .args .forced .now) (c .args .ask .start) (c .value-of-value .result));
     }
 
 pub returns-in-rest : need.returns-in-rest
@@ -46,7 +42,7 @@ returns-in-rest g c =
     record {
       same = s .same;
       put-back = put-back q (c .pre .sound) (c .pre .some) (c .args .first) (c .query-reply .last .forced) (c .value-of-value .result) (s .put-back);
-      reply = s .reply ∙ half-reply m q (c .args .first) _ below (c .args .ask .allowance);
-      range = half-stays m q (c .args .first) _ below (c .args .ask .allowance) (c .args .range .now) (c .query-reply .last .range) _ (c .pre .some) long (s .range) (c .query-reply .result) (s .reply) (c .in-rest .not-Move) (c .pre .unset);
-      marks = s .marks ∙ half-marks m q (c .args .first) _ below (c .args .ask .allowance) _ _ (length-set (c .args .forced .now) (c .args .ask .start) (c .value-of-value .result));
+      reply = s .reply ∙ half-reply m q (c .args .first) _ below (c .args .allowance);
+      range = half-stays m q (c .args .first) _ below (c .args .allowance) (c .args .range .now) (c .query-reply .last .range) _ (c .pre .some) long (s .range) (c .query-reply .result) (s .reply) (c .in-rest .not-Move) (c .pre .unset);
+      marks = s .marks ∙ half-marks m q (c .args .first) _ below (c .args .allowance) _ _ (length-set (c .args .forced .now) (c .args .ask .start) (c .value-of-value .result));
     }
