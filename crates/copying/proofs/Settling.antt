@@ -66,11 +66,11 @@ module _ (m : Making) (t : Lost) (cs : List Copies) where
       pub root-stopped : (m₃ : Making) → Stopped m₂ m₃ 1 → Stopped m m₃ (length (gates-of m t cs))
       root-stopped m₃ S = stopped-after m m₂ m₃ (joins-of m t cs .gates) 1 (length (gates-of m t cs)) grown-joins S (omega (arith, few .1))
 
-      pub root-made : (m₃ : Making) (l : Literal) (g : Pair) (r : ℕ) → r ≡ opposite (j .code) → g ≡ record { left = t .root .code; right = r } → Grown m₂ m₃ (g ∷ []) →
+      pub root-made : (m₃ : Making) (l : Literal) (g : Pair) → g ≡ record { left = t .root .code; right = opposite (j .code) } → Grown m₂ m₃ (g ∷ []) →
           l .code ≡ 2 * (m₂ .first + m₂ .used + m₂ .made) → All-made m m₃ t cs l
-      root-made m₃ l g r a b G e = record {
+      root-made m₃ l g b G e = record {
         grown = grown-more m m₂ m₃ (joins-of m t cs .gates) (last ∷ []) grown-joins
-            (subst (λ h. Grown m₂ m₃ (h ∷ [])) (b ∙ ap (last-with) (a ∙ ap opposite (J m copied start (A .grown) .1 ∙ ap (λ k. k .literal) joins-are))) G);
+            (subst (λ h. Grown m₂ m₃ (h ∷ [])) (b ∙ ap (last-with) (ap opposite (J m copied start (A .grown) .1 ∙ ap (λ k. k .literal) joins-are))) G);
         root = e ∙ next-literal m m₂ (joins-of m t cs .gates) start grown-joins;
       }
         where

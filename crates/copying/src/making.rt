@@ -3,8 +3,10 @@ ghost use mathlib.Core.Bool.{false};
 ghost use mathlib.Core.List.{[], _∷_};
 ghost use mathlib.Core.Path.{_≡_};
 ghost use Prim.Native.Nat.{ℕ, _+_, _*_, _/_, _<_, _≤_};
+ghost use lib.Dec.{leb};
 ghost use lib.ListN.{length, getD, take, replicate};
 ghost use Rattle.circuit.specs.Gates.{pair, pairs};
+ghost use Rattle.copies.specs.Copy.{opposite};
 ghost use Rattle.copies.specs.Make.{input-copy, core-of};
 ghost use Rattle.copying.specs.Gates.{part-in, gate-in, gates-for, Gate-copied, olds, all-made, All-copied, join-gates, One-joined, Core-joined, Core-stopped};
 ghost use Rattle.copying.specs.Places.{none};
@@ -23,6 +25,7 @@ use super::places::flipped;
 use super::places::flipped_by;
 use super::places::need_core;
 use super::places::need_inputs;
+use super::places::place_at;
 use super::places::plain;
 use super::places::put_copy;
 use circuit::Gate;
@@ -65,6 +68,14 @@ impl Drop for Making<'_> {
 }
 
 impl Making<'_> {
+    // Whether no entry is free.
+    fn is_full(&self) -> bool
+        requires { ⌜ now self .used + now self .made ≤ length (now (now self .gates)) ⌝ }
+        ensures { λ r. ⌜ r ≡ leb (length (now (now (self .entry) .gates))) (now (self .entry) .used + now (self .entry) .made) ⌝ }
+    {
+        self.used + self.made >= self.gates.len()
+    }
+
     // Makes a gate and gives its literal. No other function makes gates.
     fn add(&mut self, gate: Gate) -> Result<Literal, Full>
         requires small { ⌜ now self .first + length (now (now self .gates)) ≤ 32768 ⌝ }
@@ -73,10 +84,10 @@ impl Making<'_> {
             (λ l. Grown (now (self .entry)) (now (self .exit)) (pair gate ∷ []) × (l .code ≡ 2 * (now (self .entry) .first + now (self .entry) .used + now (self .entry) .made)))
             (λ _. Stopped (now (self .entry)) (now (self .exit)) 1) ⌝ }
     {
-        let at = self.used + self.made;
-        if at >= self.gates.len() {
+        if self.is_full() {
             return Err(Full);
         }
+        let at = self.used + self.made;
         self.gates[at] = gate;
         self.made += 1;
         Ok(Literal::new((2 * (self.first + at)) as u16))
@@ -164,8 +175,8 @@ fn make_copies(
         (λ _. All-copied (now (making .entry)) (now (making .exit)) bounds (now (play .entry)) (now (copies .entry)) (now (copies .exit)))
         (λ _. Stopped (now (making .entry)) (now (making .exit)) (length (all-made (now (making .entry)) bounds (now (play .entry)) (now (copies .entry)) .gates))) ⌝ }
 {
-    for code in 0..2 * copies.len() {
-        let place = Literal::new(code as u16);
+    for number in 0..2 * copies.len() {
+        let place = place_at(number);
         if copies[place.node()].at(place).is_some() {
             let copy = if place.node() < making.first {
                 input_copy(place, bounds, play)
@@ -221,6 +232,13 @@ fn join_core(
     }
 }
 
+// The gate of a new root: the old one and not the joined copies.
+fn root_gate(root: Literal, joined: Literal) -> Gate
+    ensures { λ r. ⌜ pair r ≡ record { left = root .code; right = opposite (joined .code) } ⌝ }
+{
+    Gate::new(root, flipped(joined))
+}
+
 // Makes all gates of a settlement, where the list of copies shows what is needed, and gives the new root.
 fn make_gates(making: &mut Making, lost: Lost, copies: &mut [Copies]) -> Result<Literal, Full>
     requires start { ⌜ now making .made ≡ 0 ⌝ }
@@ -238,7 +256,7 @@ fn make_gates(making: &mut Making, lost: Lost, copies: &mut [Copies]) -> Result<
 {
     make_copies(making, lost.bounds, lost.play, copies)?;
     let joined = join_core(making, lost.core, lost.values, copies)?;
-    making.add(Gate::new(lost.root, flipped(joined)))
+    making.add(root_gate(lost.root, joined))
 }
 
 // Makes a settlement's gates after the `used` ones, or leaves the table as it was. The copies are left in their list.

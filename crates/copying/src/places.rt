@@ -79,6 +79,14 @@ pub(super) fn flipped_by(literal: Literal, sign: Literal) -> Literal
     }
 }
 
+// The place of a number: places go by nodes, positive before negative.
+pub(super) fn place_at(number: usize) -> Literal
+    requires { ⌜ number < 65536 ⌝ }
+    ensures { λ r. ⌜ r .code ≡ number ⌝ }
+{
+    Literal::new(number as u16)
+}
+
 // The plain literal of a place's node.
 pub(super) fn plain(place: Literal) -> Literal
     ensures { λ r. ⌜ r .code ≡ 2 * (place .code / 2) ⌝ }
@@ -154,8 +162,8 @@ pub(super) fn need_inputs(gates: &[Gate], first: usize, copies: &mut [Copies])
     requires small { ⌜ length (now copies) ≤ 32768 ⌝ }
     ensures { λ _. ⌜ shown (now (copies .exit)) ≡ sweep (needs first (pairs (now (gates .entry)))) (2 * length (now (copies .entry))) (shown (now (copies .entry))) ⌝ }
 {
-    for code in (2 * first..2 * copies.len()).rev() {
-        let place = Literal::new(code as u16);
+    for number in (2 * first..2 * copies.len()).rev() {
+        let place = place_at(number);
         if copies[place.node()].at(place).is_some() {
             let gate = gates[place.node() - first];
             need(copies, flipped_by(gate.left(), place));

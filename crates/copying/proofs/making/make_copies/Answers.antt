@@ -10,21 +10,21 @@ use Rattle.copying.proofs.Passed.{passed-none, passed-all, inputs-low, gate-st
 use Rattle.copying.proofs.making.make_copies.Needs as need
 use Rattle.copying.proofs.making.make_copies.Needs.{then-is-some, else-is-some, then-node-making, else-node-making·in-Continue-copy}
 
-pub loop-code-holds : need.loop-code-holds
-loop-code-holds c = (grown-none (c .args .making .now) (omega arith), passed-none _ _ _ _ (c .args .copies .now) refl)
+pub loop-number-holds : need.loop-number-holds
+loop-number-holds c = (grown-none (c .args .making .now) (omega arith), passed-none _ _ _ _ (c .args .copies .now) refl)
 
 pub copy-gate-requires : need.copy-gate-requires
 copy-gate-requires c κs =
     let m₀ = c .args .making .now in
     let part = part-in (c .args .bounds) (c .args .play .now) in
     let ns = shown (c .args .copies .now) in
-    let l = c .new-place .result .code in
-    let now-at = going-at m₀ part ns (c .loop-code .code) l _ _ _ _ (sym (c .new-place .ensures)) refl refl (c .loop-code .inv) in
+    let l = c .place-at-place .result .code in
+    let now-at = going-at m₀ part ns (c .loop-number .number) l _ _ _ _ (sym (c .place-at-place .ensures)) refl refl (c .loop-number .inv) in
     let G = now-at .0 in
-    let long = grown-length m₀ (c .loop-code .making) _ G in
+    let long = grown-length m₀ (c .loop-number .making) _ G in
     let deep : m₀ .first ≤ l / 2 = omega (arith, G .first-is) in
     let within : l / 2 < m₀ .first + m₀ .used = omega arith in
-    let low = inputs-low m₀ (c .loop-code .making) part ns l (c .loop-code .copies) (c .pre .start) (c .pre .room) (c .pre .ascending) deep within G (now-at .1) in
+    let low = inputs-low m₀ (c .loop-number .making) part ns l (c .loop-number .copies) (c .pre .start) (c .pre .room) (c .pre .ascending) deep within G (now-at .1) in
     record {
       small = omega (arith, G .first-is);
       room = omega (arith, G .used-is, G .made-is, G .room);
@@ -39,28 +39,28 @@ returns-in-Break-copy c =
     let m₀ = c .args .making .now in
     let part = part-in (c .args .bounds) (c .args .play .now) in
     let ns = shown (c .args .copies .now) in
-    let cs = c .loop-code .copies in
-    let l = c .new-place .result .code in
-    let now-at = going-at m₀ part ns (c .loop-code .code) l _ _ _ _ (sym (c .new-place .ensures)) refl refl (c .loop-code .inv) in
+    let cs = c .loop-number .copies in
+    let l = c .place-at-place .result .code in
+    let now-at = going-at m₀ part ns (c .loop-number .number) l _ _ _ _ (sym (c .place-at-place .ensures)) refl refl (c .loop-number .inv) in
     let G = now-at .0 in
     let o = c .at .ensures ∙ ap (λ n. held-in (getD cs n none) l) (c .node .ensures) in
     let deep : m₀ .first ≤ l / 2 = omega (arith, G .first-is) in
     let within : l / 2 < m₀ .first + m₀ .used = omega arith in
     let p = err-from-errBy (c .from-residual .result) (c .from-residual .ensures .1) in
-    rw (p .1) (gate-stopped m₀ (c .loop-code .making) part ns l cs (c .pre .start) (c .pre .room) (c .pre .ascending) deep within G (now-at .1) (c .copy-gate .last .making) (2 * length (c .args .copies .now)) (wanted-there m₀ part ns l (c .loop-code .making) cs (c .at .result) (c .is-some .result) (omega arith) o (c .is-some .ensures) (c .if-is-some .taken) now-at) (omega arith) (c .in-Break-copy .ensures tt))
+    rw (p .1) (gate-stopped m₀ (c .loop-number .making) part ns l cs (c .pre .start) (c .pre .room) (c .pre .ascending) deep within G (now-at .1) (c .copy-gate .last .making) (2 * length (c .args .copies .now)) (wanted-there m₀ part ns l (c .loop-number .making) cs (c .at .result) (c .is-some .result) (omega arith) o (c .is-some .ensures) (c .if-is-some .taken) now-at) (omega arith) (c .in-Break-copy .ensures tt))
 
-pub loop-code-again : need.loop-code-again
-loop-code-again c =
+pub loop-number-again : need.loop-number-again
+loop-number-again c =
     let m₀ = c .args .making .now in
     let part = part-in (c .args .bounds) (c .args .play .now) in
     let ns = shown (c .args .copies .now) in
-    let cs = c .loop-code .copies in
-    let m = c .loop-code .making in
-    let l = c .new-place .result .code in
-    let now-at = going-at m₀ part ns (c .loop-code .code) l _ _ _ _ (sym (c .new-place .ensures)) refl refl (c .loop-code .inv) in
+    let cs = c .loop-number .copies in
+    let m = c .loop-number .making in
+    let l = c .place-at-place .result .code in
+    let now-at = going-at m₀ part ns (c .loop-number .number) l _ _ _ _ (sym (c .place-at-place .ensures)) refl refl (c .loop-number .inv) in
     let G = now-at .0 in
     let o = c .at .ensures ∙ ap (λ n. held-in (getD cs n none) l) (c .node .ensures) in
-    let next : suc l ≡ c .loop-code .code + 1 = omega arith in
+    let next : suc l ≡ c .loop-number .number + 1 = omega arith in
     elim (c .if-is-some .came) [
       | then-is-some w ↦ elim (w .if-node-making .came) [
         | then-node-making w′ ↦ going-at m₀ part ns (suc l) _ _ _ _ _ next (sym (w .making-is ∙ w′ .making-is)) (sym (w .copies-is))
@@ -77,6 +77,6 @@ loop-code-again c =
 
 pub returns : need.returns
 returns c =
-    let e : c .loop-code .code ≡ 2 * length (c .args .copies .now) = omega arith in
-    let I = going-at (c .args .making .now) (part-in (c .args .bounds) (c .args .play .now)) (shown (c .args .copies .now)) (c .loop-code .code) _ _ _ _ _ e refl refl (c .loop-code .inv) in
-    record { grown = I .0; copies = passed-all _ _ _ _ (c .loop-code .copies) (2 * length (c .args .copies .now)) (omega arith) (I .1) }
+    let e : c .loop-number .number ≡ 2 * length (c .args .copies .now) = omega arith in
+    let I = going-at (c .args .making .now) (part-in (c .args .bounds) (c .args .play .now)) (shown (c .args .copies .now)) (c .loop-number .number) _ _ _ _ _ e refl refl (c .loop-number .inv) in
+    record { grown = I .0; copies = passed-all _ _ _ _ (c .loop-number .copies) (2 * length (c .args .copies .now)) (omega arith) (I .1) }

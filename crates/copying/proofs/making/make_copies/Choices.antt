@@ -8,7 +8,7 @@ use Rattle.copying.proofs.Passed.{Passed}
 use Rattle.copying.proofs.making.make_copies.Given as given
 
 -- the places so far are made
-abbrev pub Inv-loop-code : given.InvT-loop-code
-Inv-loop-code l =
-    Grown (l .entry .making) (l .making) (make (l .entry .making .first) (olds (l .entry .making)) (part-in (l .bounds) (l .play)) (shown (l .entry .copies)) (l .code) .gates) ×
-    Passed (l .entry .making .first) (olds (l .entry .making)) (part-in (l .bounds) (l .play)) (shown (l .entry .copies)) (l .code) (l .copies)
+abbrev pub Inv-loop-number : given.InvT-loop-number
+Inv-loop-number l =
+    Grown (l .entry .making) (l .making) (make (l .entry .making .first) (olds (l .entry .making)) (part-in (l .bounds) (l .play)) (shown (l .entry .copies)) (l .number) .gates) ×
+    Passed (l .entry .making .first) (olds (l .entry .making)) (part-in (l .bounds) (l .play)) (shown (l .entry .copies)) (l .number) (l .copies)

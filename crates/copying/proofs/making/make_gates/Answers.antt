@@ -49,6 +49,6 @@ returns c =
     let m₂ = c .join-core .last .making in
     cases-weaker (c .add .result) (c .add .ensures)
     (λ l p. root-made m (c .args .lost) cs m₁ cs′ (c .pre .start) (c .in-Continue-make-copies .ensures tt) (length cs′) (c .make-copies .kept .copies) m₂ (c .in-Continue-joined .joined) (c .in-Continue-joined .ensures tt)
-    (c .add .last .self) l _ (c .flipped .result .code) (c .flipped .ensures) (c .new .ensures) (p .0) (p .1))
+    (c .add .last .self) l _ (c .root-gate .ensures) (p .0) (p .1))
     (λ _ s. root-stopped m (c .args .lost) cs m₁ cs′ (c .pre .start) (c .in-Continue-make-copies .ensures tt) (length cs′) (c .make-copies .kept .copies) m₂ (c .in-Continue-joined .joined) (c .in-Continue-joined .ensures tt)
     (c .add .last .self) s)

@@ -8,7 +8,7 @@ use Rattle.copying.specs.Places.{shown}
 use Rattle.copying.proofs.places.need_inputs.Given as given
 
 -- what is left of the sweep gives the same marks
-abbrev pub Inv-loop-code : given.InvT-loop-code
-Inv-loop-code l =
-    (l .code ≤ 2 * length (l .copies)) ×
-    (sweep (needs (l .first) (pairs (l .gates))) (l .code) (shown (l .copies)) ≡ sweep (needs (l .first) (pairs (l .gates))) (2 * length (l .entry .copies)) (shown (l .entry .copies)))
+abbrev pub Inv-loop-number : given.InvT-loop-number
+Inv-loop-number l =
+    (l .number ≤ 2 * length (l .copies)) ×
+    (sweep (needs (l .first) (pairs (l .gates))) (l .number) (shown (l .copies)) ≡ sweep (needs (l .first) (pairs (l .gates))) (2 * length (l .entry .copies)) (shown (l .entry .copies)))
