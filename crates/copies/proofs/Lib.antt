@@ -8,3 +8,4 @@ pub mod Right
 pub mod Core
 pub mod Rested
 pub mod Shortcuts
+pub mod Passes

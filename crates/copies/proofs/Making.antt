@@ -253,10 +253,10 @@ of-map [] i h = absurd h
 of-map (k ∷ ls) i (inl e) = (k, inl refl, e)
 of-map (k ∷ ls) i (inr h) = let r = of-map ls i h in (r .0, inr (r .1), r .2)
 
-module _ (first : ℕ) (old : List Pair) (asc : Ascending first old) (pos : 0 < first) where
-  needs-at : (l : ℕ) → first ≤ l / 2 → needs first old l ≡ like l (gate-at first old l .left) ∷ like l (gate-at first old l .right) ∷ []
-  needs-at l h = ap (λ b. cond b [] (like l (gate-at first old l .left) ∷ like l (gate-at first old l .right) ∷ [])) (le-ltb (l / 2) first h)
+pub needs-at : (first : ℕ) (old : List Pair) (l : ℕ) → first ≤ l / 2 → needs first old l ≡ like l (gate-at first old l .left) ∷ like l (gate-at first old l .right) ∷ []
+needs-at first old l h = ap (λ b. cond b [] (like l (gate-at first old l .left) ∷ like l (gate-at first old l .right) ∷ [])) (le-ltb (l / 2) first h)
 
+module _ (first : ℕ) (old : List Pair) (asc : Ascending first old) (pos : 0 < first) where
   low-gate : (k : ℕ) → (gate old k .left < 2 * (first + k)) × (gate old k .right < 2 * (first + k))
   low-gate k =
       elim (cases-lt k (length old)) [
@@ -284,8 +284,8 @@ module _ (first : ℕ) (old : List Pair) (asc : Ascending first old) (pos : 0 < 
         (getD (needed first old core) (like l (gate-at first old l .left)) false ≡ true) × (getD (needed first old core) (like l (gate-at first old l .right)) false ≡ true)
     needed-closed l b d o =
         let f = exact l .0 o in (
-          exact (like l (gate-at first old l .left)) .1 (go l _ f (rw (needs-at l d) (inl refl))),
-          exact (like l (gate-at first old l .right)) .1 (go l _ f (rw (needs-at l d) (inr (inl refl)))),
+          exact (like l (gate-at first old l .left)) .1 (go l _ f (rw (needs-at first old l d) (inl refl))),
+          exact (like l (gate-at first old l .right)) .1 (go l _ f (rw (needs-at first old l d) (inr (inl refl)))),
         )
 
     needed-core : (l : ℕ) → In l core → getD (needed first old core) (opposite l) false ≡ true

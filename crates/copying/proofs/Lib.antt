@@ -1,0 +1,7 @@
+mod Held
+mod Down
+mod Entries
+mod Up
+mod Passed
+mod Joining
+mod Settling

@@ -1,0 +1,4 @@
+pub mod Places
+pub mod Table
+pub mod Gates
+pub mod Settle
