@@ -1,7 +1,7 @@
 // Blame: which forced nodes make the root false. It goes from the root down: a forced node is marked and not entered, a false gate passes
 // it to its left input if that is false, else to its right, and a true gate passes it to both.
 //
-// The nodes that are blamed are noted in `order`, each once, by the flags in `seen`, so that no other node is touched.
+// The nodes that are blamed are noted in a list, each once, by flags, so that no other node is touched.
 ghost use mathlib.Core.Bool.{false, true, cond};
 ghost use mathlib.Core.Path.{_≡_};
 ghost use Prim.Native.Nat.{ℕ, _+_, _*_, _/_, _<_, _≤_};
@@ -11,14 +11,29 @@ ghost use Rattle.splitting.specs.Blame.{passes, core};
 ghost use Rattle.splitting.specs.Blame.{cause as cause-by};
 ghost use Rattle.splitting.specs.Tree.{join};
 ghost use Rattle.splitting.specs.Worklist.{seen-count, noted};
+ghost use Rattle.std.specs.Of.Vec.{vec-items};
 ghost use Rattle.valuation.specs.Circuit.{Ascending, lit, reads};
 ghost use Rattle.valuation.specs.Sweep.{marked};
+use super::NODES;
 use circuit::Gate;
 use circuit::kinds::Single;
 use circuit::walking::literal_value;
 use search::Ask;
+use std::alloc::AllocError;
+use std::alloc::Global;
 use valuation::Value;
 use valuation::ValuePartialEq;
+
+// Memory to go through the nodes that are blamed.
+#[derive(Drop)]
+pub(super) struct Blame {
+    // which nodes are noted; none between queries
+    seen: Vec<bool>,
+    // the noted nodes, as they were found
+    order: Vec<usize>,
+    ghost clear: { vec-items seen ≡ replicate 8129 false },
+    ghost room: { length (vec-items order) ≡ 8129 },
+}
 
 // Notes a node, unless it is seen already, and says how many are noted then.
 fn note(node: usize, count: usize, seen: &mut [bool], order: &mut [usize]) -> usize
@@ -88,7 +103,7 @@ fn forget(noted: &[usize], seen: &mut [bool])
 }
 
 // Marks the forced nodes that are blamed for the root's value. No node is seen before or after.
-pub(super) fn mark_blamed(
+fn mark_blamed(
     ask: Ask<'_>,
     forced: &[Value],
     values: &[Value],
@@ -128,4 +143,33 @@ pub(super) fn mark_blamed(
         done += 1;
     }
     forget(&order[0..count], seen);
+}
+
+impl Blame {
+    pub(super) fn new(heap: Global) -> Result<Blame, AllocError> {
+        Ok(Blame {
+            seen: vec![in heap; false; NODES]?,
+            order: vec![in heap; 0; NODES]?,
+        })
+    }
+
+    // Marks the forced nodes that are blamed for the root's value.
+    pub(super) fn mark(
+        &mut self,
+        ask: Ask<'_>,
+        forced: &[Value],
+        values: &[Value],
+        marks: &mut [bool],
+    )
+        requires ascending { ⌜ Ascending (1 + ask .variables) (pairs (now (ask .gates))) ⌝ }
+        requires inside { ⌜ ask .root .code / 2 < 1 + ask .variables + length (now (ask .gates)) ⌝ }
+        requires covered { ⌜ length (now forced) ≡ 1 + ask .variables + length (now (ask .gates)) ⌝ }
+        requires markable { ⌜ length (now marks) ≡ length (now forced) ⌝ }
+        requires valued { ⌜ length (now forced) ≤ length (now values) ⌝ }
+        requires room { ⌜ length (now values) ≤ 8129 ⌝ }
+        ensures { λ _. ⌜ now (marks .exit) ≡ join (now (marks .entry))
+            (core (1 + ask .entry .variables) (pairs (now (ask .entry .gates))) (reads (now (forced .entry))) (reads (now (values .entry))) (ask .entry .root .code / 2)) ⌝ }
+    {
+        mark_blamed(ask, forced, values, &mut self.seen, &mut self.order, marks);
+    }
 }

@@ -5,3 +5,4 @@ pub mod Working
 pub mod Marking
 pub mod Replies
 pub mod Standing
+pub mod Branches

@@ -9,7 +9,7 @@ use lib.ListN.{length, replicate}
 use Rattle.std.proofs.shelf.Tests.{cases-lt, lt-ltb, le-ltb}
 use Rattle.valuation.specs.declared.Value.the-variants.{Unknown}
 use Rattle.search.specs.declared.Reply.the-variants.{Move, NoMove, Spent}
-use Rattle.search.specs.Answers.{Outcome, moves, loses, Answer, paid, reply-of, setting-of, range-after, core-of}
+use Rattle.search.specs.Answers.{Outcome, moves, loses, Answer, paid, reply-of, setting-of, range-after, core-of, marks-after}
 use Rattle.splitting.specs.Tree.{answer, join, second, ways}
 use Rattle.splitting.specs.Steps.{later, steps-of}
 
@@ -69,6 +69,23 @@ reply-within a n =
 -- the range is unset unless the reply is a move
 pub range-no-move : (a : Answer) (n m f : ℕ) → reply-of a n ≡ NoMove m → range-after a n f ≡ replicate f Unknown
 range-no-move a n m f e = let l = no-move-says a n m e in range-paid a n f (omega (arith, l .cost, l .within)) ∙ ap (λ o. setting-of o f) (l .loss)
+
+-- the marks are the core of a no move, and else none
+pub marks-no-move : (a : Answer) (n m size : ℕ) → reply-of a n ≡ NoMove m → marks-after a n size ≡ core-of (a .outcome) size
+marks-no-move a n m size e =
+    let l = no-move-says a n m e in
+    ap (λ b. cond b (replicate size false) (core-of (a .outcome) size)) (le-ltb n (a .need) (omega (arith, l .cost, l .within)))
+
+pub marks-other : (a : Answer) (n size : ℕ) → ((m : ℕ) → reply-of a n ≢ NoMove m) → marks-after a n size ≡ replicate size false
+marks-other a n size other =
+    elim (cases-lt n (a .need)) [
+      | inl h ↦ ap (λ b. cond b (replicate size false) (core-of (a .outcome) size)) (lt-ltb n (a .need) h)
+      | inr h ↦ ap (λ b. cond b (replicate size false) (core-of (a .outcome) size)) (le-ltb n (a .need) h) ∙ pick (a .outcome) refl h
+    ]
+  where
+    pick : (o : Outcome) → a .outcome ≡ o → a .need ≤ n → core-of o size ≡ replicate size false
+    pick (moves s) is h = refl
+    pick (loses c) is h = absurd (other (a .need) (reply-paid a n h ∙ ap (λ o. paid o (a .need)) is))
 
 -- the first way has no no move: its reply is the node's, a step later
 module _ (a b : Answer) (n : ℕ) (some : 1 ≤ n) (other : (m : ℕ) → reply-of a (n - 1) ≢ NoMove m) where

@@ -7,17 +7,17 @@ use Prim.Native.Nat.{ℕ, zero, suc, _+_, _-_, _<_, _≤_}
 use native.Mathlib.Omega.{arith}
 use lib.Dec.{eqb, ltb}
 use lib.ListN.{length, getD, set, take, drop, replicate}
-use Rattle.std.proofs.shelf.Lists.{ext-getD, getD-append-left, getD-append-right, getD-drop, getD-map, getD-past, getD-push, getD-replicate, getD-set-same, getD-set-other, getD-take, length-append, length-drop, length-map, length-push, length-replicate, length-set, length-take-le, map-push, set-getD, set-set}
+use Rattle.std.proofs.shelf.Lists.{ext-getD, getD-append-left, getD-append-right, getD-drop, getD-map, getD-past, getD-push, getD-replicate, getD-set-same, getD-set-other, getD-take, length-append, length-drop, length-map, length-push, length-replicate, length-set, length-take, length-take-le, map-push, set-getD, set-set, take-at}
 use Rattle.std.proofs.shelf.Counted.{length-map-counting, getD-map-counting}
 use Rattle.std.proofs.shelf.Tests.{cases-eq, cases-lt, cond-false, ne-eqb, lt-ltb, le-ltb}
 use Rattle.valuation.specs.declared.Value.{Value}
 use Rattle.valuation.specs.declared.Value.the-variants.{Unknown, False}
 use Rattle.valuation.specs.Three.{of-bool, orElse}
-use Rattle.valuation.specs.Circuit.{nothing, reads, settings-from}
+use Rattle.valuation.specs.Circuit.{nothing, reads, input-values, settings-from}
 use Rattle.valuation.proofs.Order.{known, forced-unknown}
 use Rattle.valuation.proofs.Computed.{equations-hold}
 use Rattle.search.specs.Queries.{Query, Sound}
-use Rattle.splitting.specs.Steps.{settled, inputs-at, Stands}
+use Rattle.splitting.specs.Steps.{settled, inputs-at, Stands, is-true, settings-at}
 
 pub take-set-in : {X : Type 0} (n : ℕ) (xs : List X) (i : ℕ) (x : X) → take n (set xs i x) ≡ set (take n xs) i x
 take-set-in zero [] i x = refl
@@ -26,6 +26,16 @@ take-set-in zero (y ∷ ys) (suc i) x = refl
 take-set-in (suc n) [] i x = refl
 take-set-in (suc n) (y ∷ ys) zero x = refl
 take-set-in (suc n) (y ∷ ys) (suc i) x = ap (λ zs. y ∷ zs) (take-set-in n ys i x)
+
+-- at the start no variable is set
+module _ (q : Query) where
+  pub start-stands : (inputs rest : List Value) (room : ℕ) → room ≡ 1 + q .variables → inputs ≡ input-values room (reads (q .forced)) (settings-from (q .start) []) → Stands q [] (inputs ++ rest)
+  start-stands inputs rest room whole is =
+      let set-is : inputs ≡ inputs-at q [] = is ∙ ap (λ n. input-values n (reads (q .forced)) (settings-from (q .start) [])) whole in
+      take-at inputs rest (1 + q .variables) (ap length set-is ∙ length-map-counting (λ n. orElse (reads (q .forced) n) (settings-from (q .start) [] n)) 0 (1 + q .variables)) ∙ set-is
+
+  pub start-settings : (values : List Value) → settings-at (q .start) (q .free - q .free) values ≡ []
+  start-settings values = ap (λ n. settings-at (q .start) n values) (let e : q .free - q .free ≡ 0 = omega arith in e)
 
 module _ (q : Query) (sound : Sound q) where
   -- no variable of the range is forced
@@ -97,27 +107,50 @@ module _ (q : Query) (sound : Sound q) where
       ap (λ xs. set xs (q .start + length s) Unknown) (inputs-more s b h) ∙ set-set (inputs-at q s) (q .start + length s) (of-bool b) Unknown
       ∙ ap (set (inputs-at q s) (q .start + length s)) (sym (next-unset s h)) ∙ set-getD (inputs-at q s) (q .start + length s) Unknown
 
+  values-long : (s : List Bool) (values : List Value) → Stands q s values → 1 + q .variables ≤ length values
+  values-long s values stands = omega (arith, length-inputs s, ap length stands, length-take (1 + q .variables) values)
+
+  -- a variable's value is its setting
+  value-is : (s : List Bool) (values : List Value) → Stands q s values → (k : ℕ) → k < q .free → getD values (q .start + k) Unknown ≡ reads (map of-bool s) k
+  value-is s values stands k h =
+      let i = sound .inside in
+      sym (getD-take (1 + q .variables) values (q .start + k) Unknown (omega arith)) ∙ ap (λ xs. reads xs (q .start + k)) stands ∙ range-is s k h
+
+  pub length-settings : (s : List Bool) (d : ℕ) (values : List Value) → d ≤ q .free → Stands q s values → length (settings-at (q .start) d values) ≡ d
+  length-settings s d values h stands =
+      length-map (take d (drop (q .start) values)) is-true ∙ length-take-le d (drop (q .start) values) (omega (arith, length-drop (q .start) values, values-long s values stands, sound .inside))
+
+  -- the settings can be read back
+  pub settings-back : (s : List Bool) (d : ℕ) (values : List Value) → d ≡ length s → length s ≤ q .free → Stands q s values → settings-at (q .start) d values ≡ s
+  settings-back s d values is fits stands =
+      let i = sound .inside in
+      let long = values-long s values stands in
+      let part : length (take d (drop (q .start) values)) ≡ length s = length-take-le d (drop (q .start) values) (omega (arith, length-drop (q .start) values)) ∙ is in
+      ext-getD false (settings-at (q .start) d values) s (length-map (take d (drop (q .start) values)) is-true ∙ part)
+      (λ k h. let m : k < length s = omega (arith, length-map (take d (drop (q .start) values)) is-true) in
+      getD-map is-true (take d (drop (q .start) values)) k Unknown false (omega arith)
+      ∙ ap is-true (getD-take d (drop (q .start) values) k Unknown (omega arith) ∙ getD-drop (q .start) values k Unknown ∙ value-is s values stands k (omega arith) ∙ getD-map of-bool s k false Unknown m)
+      ∙ back (getD s k false))
+    where
+      back : (b : Bool) → is-true (of-bool b) ≡ b
+      back true = refl
+      back false = refl
+
   -- the move of a node with k variables unset
   pub setting-is : (s : List Bool) (k : ℕ) (values : List Value) → length s + k ≡ q .free → Stands q s values → map settled (take (q .free) (drop (q .start) values)) ≡ map of-bool (s ++ replicate k false)
   setting-is s k values fits stands =
       let i = sound .inside in
-      let long : 1 + q .variables ≤ length values = omega (arith, length-inputs s, ap length stands, take-short (1 + q .variables) values) in
+      let long = values-long s values stands in
       let part : length (take (q .free) (drop (q .start) values)) ≡ q .free = length-take-le (q .free) (drop (q .start) values) (omega (arith, length-drop (q .start) values)) in
       let rest : length (s ++ replicate k false) ≡ q .free = length-append s (replicate k false) ∙ ap (λ n. length s + n) (length-replicate k false) ∙ fits in
       ext-getD Unknown (map settled (take (q .free) (drop (q .start) values))) (map of-bool (s ++ replicate k false))
       (length-map (take (q .free) (drop (q .start) values)) settled ∙ part ∙ sym (length-map (s ++ replicate k false) of-bool ∙ rest))
       (λ j h. let m : j < q .free = omega (arith, length-map (take (q .free) (drop (q .start) values)) settled) in
       getD-map settled (take (q .free) (drop (q .start) values)) j Unknown Unknown (omega arith)
-      ∙ ap settled (getD-take (q .free) (drop (q .start) values) j Unknown m ∙ getD-drop (q .start) values j Unknown
-      ∙ sym (getD-take (1 + q .variables) values (q .start + j) Unknown (omega arith)) ∙ ap (λ xs. reads xs (q .start + j)) stands ∙ range-is s j m)
+      ∙ ap settled (getD-take (q .free) (drop (q .start) values) j Unknown m ∙ getD-drop (q .start) values j Unknown ∙ value-is s values stands j m)
       ∙ one j m
       ∙ sym (getD-map of-bool (s ++ replicate k false) j false Unknown (omega arith)))
     where
-      take-short : {X : Type 0} (n : ℕ) (xs : List X) → length (take n xs) ≤ length xs
-      take-short zero xs = omega arith
-      take-short (suc n) [] = omega arith
-      take-short (suc n) (x ∷ xs) = omega (arith, take-short n xs)
-
       kept : (b : Bool) → settled (of-bool b) ≡ of-bool b
       kept true = refl
       kept false = refl
