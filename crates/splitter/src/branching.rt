@@ -111,36 +111,16 @@ fn branch(
         return Reply::Move(1);
     }
     let node = ask.start + (range.len() - unset);
-    let rest = ask.allowance - 1;
+    let mut below = ask;
+    below.allowance -= 1;
     values[node] = Value::False;
-    let low = branch(
-        Ask {
-            allowance: rest,
-            ..ask
-        },
-        forced,
-        unset - 1,
-        values,
-        blame,
-        range,
-        marks,
-    );
+    let low = branch(below, forced, unset - 1, values, blame, range, marks);
     let Reply::NoMove(spent) = low else {
         return later(1, low);
     };
+    below.allowance -= spent;
     values[node] = Value::True;
-    let high = branch(
-        Ask {
-            allowance: rest - spent,
-            ..ask
-        },
-        forced,
-        unset - 1,
-        values,
-        blame,
-        range,
-        marks,
-    );
+    let high = branch(below, forced, unset - 1, values, blame, range, marks);
     values[node] = Value::Unknown;
     later(1 + spent, high)
 }
