@@ -30,8 +30,8 @@ use valuation::ValuePartialEq;
 mod inputs;
 mod lowest;
 
-// The most nodes that a circuit has: node 0, 128 variables and 8000 gates.
-const NODES: usize = 8129;
+// The most nodes of a circuit: the constant, 128 variables and 8,000 gates.
+const NODES: usize = 1 + 128 + 8000;
 
 // How many groups the cases of some variables have.
 fn group_count(free: usize) -> u64

@@ -19,8 +19,8 @@ use std::alloc::Global;
 use std::alloc::Refused;
 use valuation::Value;
 
-// The most nodes that a circuit has: node 0, 128 variables and 8000 gates.
-const NODES: usize = 8129;
+// The most nodes of a circuit: the constant, 128 variables and 8,000 gates.
+const NODES: usize = 1 + 128 + 8000;
 
 // Joins a core to the marks, without a node.
 fn join(core: &[bool], node: usize, marks: &mut [bool])
