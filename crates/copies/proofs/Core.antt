@@ -16,7 +16,7 @@ use Rattle.valuation.specs.Sweep.{In}
 use Rattle.valuation.proofs.Order.{unknown≢watched}
 use Rattle.copies.specs.Copy.{AllTrue, forced-by}
 use Rattle.copies.specs.Make.{literal-for, core-of}
-use Rattle.copies.specs.Claims.{Core-true, Core-forces, Core-marked}
+use Rattle.copies.specs.Claims.{Core-true, Core-forces, Core-marked, Core-same}
 use Rattle.copies.proofs.Literals.{plain, turn}
 use Rattle.copies.proofs.Settled.{all-join}
 
@@ -112,3 +112,11 @@ module _ (marks : ℕ → Bool) (F : Values) where
 
 pub core-forces : Core-forces
 core-forces = within
+
+pub core-same : Core-same
+core-same marks F G zero h = refl
+core-same marks F G (suc n) h = ap₂ _++_ (core-same marks F G n (λ m i. h m (omega arith))) (one (marks n) (h n (omega arith)))
+  where
+    one : (b : Bool) → (b ≡ true → F n ≡ G n) → cond b (literal-for (F n) n) [] ≡ cond b (literal-for (G n) n) []
+    one true e = ap (λ x. literal-for x n) (e refl)
+    one false e = refl

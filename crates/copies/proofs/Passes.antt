@@ -2,7 +2,7 @@
 use mathlib.Core.Path.{_≡_, refl, ap, ap₂, sym, _∙_}
 use mathlib.Core.Bool.{Bool, true, false, cond}
 use mathlib.Core.List.{List, [], _∷_, _++_, map}
-use Prim.Native.Nat.{ℕ, zero, suc, _+_, _*_, _/_, _<_, _≤_}
+use Prim.Native.Nat.{ℕ, zero, suc, _*_, _/_, _<_, _≤_}
 use native.Mathlib.Omega.{arith}
 use native.Mathlib.Decide.{ℕ-discrete}
 use lib.ListN.{length, getD, set}
@@ -10,11 +10,11 @@ use Rattle.std.proofs.shelf.Lists.{length-append, map-append}
 use Rattle.std.proofs.shelf.Tests.{lt-ltb}
 use Rattle.valuation.specs.declared.Value.{Value}
 use Rattle.valuation.specs.declared.Value.the-variants.{Unknown, False, True}
-use Rattle.valuation.specs.Circuit.{Pair, Ascending, Values}
+use Rattle.valuation.specs.Circuit.{Pair, Values}
 use Rattle.valuation.specs.Sweep.{marked, sweep}
 use Rattle.copies.specs.Copy.{opposite, like}
 use Rattle.copies.specs.Make.{literal-for, core-of, gate-at, needs, fresh, core-copy, Join, join-more, join}
-use Rattle.copies.proofs.Making.{like-half, needs-at}
+use Rattle.copies.proofs.Making.{needs-at}
 
 -- the marks of one list and then of another
 marked-append : (ks ls : List ℕ) (ms : List Bool) → marked (ks ++ ls) ms ≡ marked ls (marked ks ms)

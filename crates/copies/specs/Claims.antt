@@ -59,6 +59,10 @@ Core-forces = (marks : ℕ → Bool) (F : Values) (size n : ℕ) → n < size �
 abbrev pub Core-marked : Type 0
 Core-marked = (marks : ℕ → Bool) (F : Values) (size l : ℕ) → In l (core-of marks F size) → (l / 2 < size) × (marks (l / 2) ≡ true) × (F (l / 2) ≢ Unknown)
 
+-- Values that agree at the marked nodes give the same core.
+abbrev pub Core-same : Type 0
+Core-same = (marks : ℕ → Bool) (F G : Values) (size : ℕ) → ((n : ℕ) → n < size → marks n ≡ true → F n ≡ G n) → core-of marks F size ≡ core-of marks G size
+
 -- What a settlement makes is right: the gates ascend, its joined copies are copies of the core, and gate m is the new root.
 pub record Made-well (first : ℕ) (old new : List Pair) (part : ℕ → Part) (core : List ℕ) (e r m : ℕ) : Type 0 where
   pub ascending : Ascending first new

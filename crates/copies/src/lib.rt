@@ -1,6 +1,6 @@
 // Settlements: what copies of a core are, why they are right, and what is made of them.
 ghost use Rattle.copies.specs.Claims.{Copies-just, Copies-own, Settles-just, Settles-falls, Settles-own};
-ghost use Rattle.copies.specs.Claims.{Core-true, Core-forces, Core-marked};
+ghost use Rattle.copies.specs.Claims.{Core-true, Core-forces, Core-marked, Core-same};
 ghost use Rattle.copies.specs.Claims.{Settlement-made, Settlement-right, Root-value, Gates-counted};
 ghost use Rattle.copies.specs.Claims.{Rests-valued, Rests-earlier, Rests-kept};
 ghost use Rattle.copies.specs.Worked.{Worked-settlements, Ones-wrong, Polarities-wrong};
@@ -49,6 +49,12 @@ pub fn core_forces() -> u8
 
 pub fn core_marked() -> u8
     ensures { λ _. ⌜ Core-marked ⌝ }
+{
+    0
+}
+
+pub fn core_same() -> u8
+    ensures { λ _. ⌜ Core-same ⌝ }
 {
     0
 }

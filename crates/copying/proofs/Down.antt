@@ -1,8 +1,8 @@
 -- The pass down, at the place i of a gate g, which stands in the list of gates at k.
-use mathlib.Core.Path.{_≡_, refl, ap, ap₂, sym, _∙_}
+use mathlib.Core.Path.{_≡_, ap, sym, _∙_}
 use mathlib.Core.Bool.{Bool, true, false}
 use mathlib.Core.List.{List}
-use Prim.Native.Nat.{ℕ, suc, _+_, _-_, _*_, _/_, _<_, _≤_}
+use Prim.Native.Nat.{ℕ, suc, _+_, _-_, _/_, _<_, _≤_}
 use native.Mathlib.Omega.{arith}
 use lib.ListN.{length, getD, set}
 use Rattle.circuit.specs.declared.Gate.{Gate}
@@ -17,10 +17,10 @@ use Rattle.copies.proofs.Passes.{sweep-gate}
 
 module _ (first : ℕ) (gs : List Gate) (d : Gate) (i k : ℕ) (deep : first ≤ i / 2) (at : k ≡ i / 2 - first) (within : k < length gs) (asc : Ascending first (pairs gs)) where
   pub left-low : (l x : ℕ) → l ≡ pair (getD gs k d) .left → x ≡ like i l → x / 2 < first + length gs
-  left-low l x e f = omega (arith, like-half i l, ap (λ y. y / 2) f, reads-below gs first k (first + k) d asc within refl .0)
+  left-low l x e f = omega (arith, like-half i l, ap (λ y. y / 2) f, reads-below gs first k (first + k) d asc within (omega arith) .0)
 
   pub right-low : (l x : ℕ) → l ≡ pair (getD gs k d) .right → x ≡ like i l → x / 2 < first + length gs
-  right-low l x e f = omega (arith, like-half i l, ap (λ y. y / 2) f, reads-below gs first k (first + k) d asc within refl .1)
+  right-low l x e f = omega (arith, like-half i l, ap (λ y. y / 2) f, reads-below gs first k (first + k) d asc within (omega arith) .1)
 
   -- the two literals are needed
   pub both-needed : (n : ℕ) (ms : List Bool) (l r a b : ℕ) → n ≡ suc i → l ≡ pair (getD gs k d) .left → a ≡ like i l → r ≡ pair (getD gs k d) .right → b ≡ like i r →

@@ -6,7 +6,7 @@ use native.Mathlib.Omega.{arith}
 use native.Mathlib.Nat.{add-zero}
 use lib.ListN.{length, getD, set, take, drop, replicate}
 use lib.Seq.{paste}
-use Rattle.std.proofs.shelf.Lists.{getD-append-left, getD-take, append-assoc, append-nil, take-append-drop, take-replicate, drop-drop, take-at, take-all, length-append, length-replicate, length-take-le}
+use Rattle.std.proofs.shelf.Lists.{getD-append-left, getD-take, append-assoc, take-append-drop, take-replicate, drop-drop, take-at, take-all, length-append, length-replicate, length-take-le}
 use Rattle.std.proofs.shelf.Edits.{paste-none, paste-more, paste-paste, drop-paste, length-paste}
 use Rattle.circuit.proofs.Records.{length-pairs}
 use Rattle.circuit.specs.Gates.{pairs}

@@ -1,23 +1,22 @@
 -- The joins, one literal of the core after the other.
-use mathlib.Core.Path.{_≡_, refl, ap, ap₂, sym, subst, _∙_}
-use mathlib.Core.Bool.{Bool, true, false, cond}
+use mathlib.Core.Path.{_≡_, refl, ap, sym, subst, _∙_}
 use mathlib.Core.List.{List, [], _∷_, _++_}
-use Prim.Native.Nat.{ℕ, suc, _+_, _-_, _*_, _/_, _<_, _≤_}
+use Prim.Native.Nat.{ℕ, _+_, _-_, _*_, _/_, _<_, _≤_}
 use native.Mathlib.Omega.{arith}
-use lib.ListN.{length, getD}
+use lib.ListN.{length}
 use Rattle.std.specs.declared.option.Option.{Option}
 use Rattle.std.specs.declared.option.Option.the-variants.{Some, None}
 use Rattle.std.proofs.shelf.Counted.{getD-map-counting}
-use Rattle.std.proofs.shelf.Lists.{append-nil, length-append, length-push, length-take-le}
+use Rattle.std.proofs.shelf.Lists.{append-nil, length-append, length-take-le}
 use Rattle.circuit.specs.declared.Literal.{Literal}
 use Rattle.circuit.specs.Gates.{pairs}
 use Rattle.circuit.proofs.Records.{length-pairs}
-use Rattle.valuation.specs.Circuit.{Pair, Values}
+use Rattle.valuation.specs.Circuit.{Pair}
 use Rattle.copies.specs.Copy.{opposite, like}
-use Rattle.copies.specs.Make.{literal-for, core-of, fresh, core-copy, Join, join}
+use Rattle.copies.specs.Make.{fresh, core-copy, Join}
 use Rattle.copies.proofs.Counted.{join-counts}
 use Rattle.copies.proofs.Making.{opposite-half}
-use Rattle.copies.proofs.Passes.{join-next, join-push, core-longer}
+use Rattle.copies.proofs.Passes.{join-next, join-push}
 use Rattle.copying.specs.declared.making.Making.{Making}
 use Rattle.copying.specs.declared.places.Copies.{Copies}
 use Rattle.copying.specs.Gates.{olds, codes, join-gates, join-code, One-joined, all-joined, Core-joined, Core-stopped}
@@ -108,10 +107,3 @@ module _ (m m′ : Making) (cs : List Copies) (core : List ℕ) (e : Option Lite
 
   pub joined-some : (l : Literal) → e ≡ Some l → Core-joined m m′ cs core l
   joined-some l p m₀ hs z G = let A = S .joins m₀ hs z G in (A .0, some-is core l (all-joined m₀ cs core hs .literal) (sym p ∙ A .1))
-
-  none-is : (ls : List ℕ) (first : ℕ) (old : List Pair) (hs : List Pair) → None ≡ if-any ls (join first old (codes cs) ls hs .literal) → 1 ≡ join first old (codes cs) ls hs .literal
-  none-is [] first old hs p = refl
-  none-is (k ∷ ls) first old hs p = absurd (let z : _≡_ {A = ℕ} 0 1 = cc in omega arith)
-
-  pub joined-none : (l : Literal) → e ≡ None → l .code ≡ 1 → Core-joined m m′ cs core l
-  joined-none l p q m₀ hs z G = let A = S .joins m₀ hs z G in (A .0, q ∙ none-is core (m₀ .first) (olds m₀) hs (sym p ∙ A .1))

@@ -5,3 +5,4 @@ mod Up
 mod Passed
 mod Joining
 mod Settling
+mod Kept

@@ -2,3 +2,4 @@ pub mod Places
 pub mod Table
 pub mod Gates
 pub mod Settle
+pub mod Claims

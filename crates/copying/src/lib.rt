@@ -6,6 +6,7 @@ ghost use mathlib.Core.Path.{_≡_};
 ghost use Prim.Native.Nat.{ℕ, _+_, _≤_};
 ghost use lib.ListN.{length, take, replicate};
 ghost use Rattle.circuit.specs.Gates.{pairs};
+ghost use Rattle.copying.specs.Claims.{Table-kept};
 ghost use Rattle.copying.specs.Places.{none};
 ghost use Rattle.copying.specs.Settle.{answer, table-after};
 ghost use Rattle.copying.specs.Table.{BlankFrom};
@@ -16,7 +17,7 @@ use making::write_gates;
 use places::Copies;
 use valuation::Value;
 
-pub mod making;
+mod making;
 pub mod places;
 
 // Where the block below the lost level begins, where the level's own begins, and where that ends, by nodes.
@@ -83,4 +84,10 @@ pub fn settle(
     let outcome = write_gates(gates, used, first, lost, &mut copies[0..nodes]);
     clear(&mut copies[0..nodes]);
     outcome
+}
+
+pub fn table_kept() -> u8
+    ensures { λ _. ⌜ Table-kept ⌝ }
+{
+    0
 }

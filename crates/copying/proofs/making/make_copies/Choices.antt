@@ -1,5 +1,3 @@
-use mathlib.Core.Path.{_≡_}
-use Prim.Native.Nat.{_+_, _≤_}
 use Rattle.copies.specs.Make.{make}
 use Rattle.copying.specs.Gates.{part-in, olds}
 use Rattle.copying.specs.Places.{shown}

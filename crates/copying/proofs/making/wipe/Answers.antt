@@ -1,7 +1,7 @@
-use mathlib.Core.Path.{_≡_, ap, ap₂, sym, _∙_}
-use Prim.Native.Nat.{ℕ, _+_, _<_}
+use mathlib.Core.Path.{ap, ap₂, sym, _∙_}
+use Prim.Native.Nat.{ℕ, _+_}
 use native.Mathlib.Omega.{arith}
-use lib.ListN.{length, set, replicate}
+use lib.ListN.{set, replicate}
 use lib.Seq.{paste}
 use Rattle.std.proofs.shelf.Edits.{fill-from-more}
 use Rattle.std.proofs.shelf.Lists.{length-replicate, map-set}

@@ -1,14 +1,14 @@
 use mathlib.Core.Path.{_≡_, refl, ap, ap₂, sym, _∙_}
-use mathlib.Core.Bool.{true, false}
-use Prim.Native.Nat.{suc, _+_, _-_, _*_, _/_, _<_, _≤_}
+use mathlib.Core.Bool.{true}
+use Prim.Native.Nat.{suc, _+_, _-_, _/_, _<_}
 use native.Mathlib.Omega.{arith}
-use lib.ListN.{length, getD, set}
+use lib.ListN.{length, set}
 use Rattle.std.specs.Options.{isSome}
 use Rattle.circuit.specs.Gates.{pairs}
 use Rattle.valuation.specs.Sweep.{sweep}
 use Rattle.copies.specs.Make.{needs}
 use Rattle.copies.proofs.Passes.{sweep-past, sweep-inputs}
-use Rattle.copying.specs.Places.{shown, none}
+use Rattle.copying.specs.Places.{shown}
 use Rattle.copying.proofs.Held.{shown-read}
 use Rattle.copying.proofs.Down.{left-low, right-low, both-needed}
 use Rattle.copying.proofs.places.need_inputs.Needs as need
