@@ -1,6 +1,5 @@
 -- The walk's laws at the kind with one case, where a value means itself.
-use mathlib.Core.Path.{_≡_, refl, sym, ap, ap₂, _∙_}
-use mathlib.Core.Logic.{_≢_}
+use mathlib.Core.Path.{_≡_, sym, ap, ap₂, _∙_}
 use mathlib.Core.Bool.{Bool, true, false, cond, not}
 use mathlib.Core.List.{List, map}
 use Prim.Native.Nat.{ℕ, _+_, _-_, _/_, _<_, _≤_}
@@ -9,7 +8,6 @@ use lib.ListN.{length, take}
 use Rattle.std.proofs.shelf.Lists.{map-id, length-take-le, take-take}
 use Rattle.std.proofs.shelf.Tests.{true≢false, false≢true}
 use Rattle.valuation.specs.declared.Value.{Value}
-use Rattle.valuation.specs.declared.Value.the-variants.{Unknown, False, True}
 use Rattle.valuation.specs.Circuit.{Values, lit, reads, values-of}
 use Rattle.valuation.proofs.Computed.{values-start}
 use Rattle.circuit.specs.Gates.{pairs}
@@ -42,12 +40,6 @@ module _ (gs : List Gate) (first l count : ℕ) (count-is : count ≡ l / 2 + 1 
       sym (map-id (take (first + length some) ys)) ∙ walked ∙ ap (values-of (pairs some) F) (map-id (take first xs)) in
       sym (take-take first (first + length some) ys (omega arith))
       ∙ ap₂ take (sym (length-take-le first xs room)) whole ∙ values-start (pairs some) F (take first xs)
-
--- neither false nor true
-pub unknown-left : (x : Value) → x ≢ False → x ≢ True → x ≡ Unknown
-unknown-left Unknown f t = refl
-unknown-left False f t = absurd (f refl)
-unknown-left True f t = absurd (t refl)
 
 -- what `!=` says
 pub differs : {P : Type 0} → (x : Bool) × cond x P (P → ⊥) × (true ≡ not x) → P → ⊥

@@ -32,6 +32,12 @@ pub record Ended (q : Query) (k : ℕ) (s : List Bool) (n : ℕ) (r : Reply) (af
   pub cores : (m : ℕ) → r ≡ NoMove m → marks ≡ join old (core-of (tree q k s .outcome) (nodes q))
   pub inputs : (m : ℕ) → r ≡ NoMove m → Stands q s values
 
+-- neither false nor true
+pub unknown-left : (x : Value) → x ≢ False → x ≢ True → x ≡ Unknown
+unknown-left Unknown f t = refl
+unknown-left False f t = absurd (f refl)
+unknown-left True f t = absurd (t refl)
+
 move-not : (m n : ℕ) → Move m ≡ NoMove n → ⊥
 move-not m n e = let z : _≡_ {A = ℕ} 0 1 = cc in omega arith
 
@@ -63,10 +69,10 @@ module _ (q : Query) (sound : Sound q) (k : ℕ) (s : List Bool) (n : ℕ) (old 
       (value : root ≡ lit (reads (values-of (q .gates) (reads (q .forced)) (take (1 + q .variables) before))) (q .root))
       (walked : take (q .root / 2 + 1) values ≡ take (q .root / 2 + 1) (values-of (q .gates) (reads (q .forced)) (take (1 + q .variables) before)))
       (kept : take (1 + q .variables) values ≡ take (1 + q .variables) before) where
-    pub root-is : root ≡ root-at q s
+    root-is : root ≡ root-at q s
     root-is = value ∙ ap (λ vs. lit (reads (values-of (q .gates) (reads (q .forced)) vs)) (q .root)) stands
 
-    pub still-stands : Stands q s values
+    still-stands : Stands q s values
     still-stands = kept ∙ stands
 
     node-is : (m : ℕ) → m ≤ q .root / 2 → reads values m ≡ values-under q (reads (q .forced)) (map of-bool s) m
@@ -106,11 +112,11 @@ module _ (q : Query) (sound : Sound q) (k : ℕ) (s : List Bool) (fits : length 
   abbrev child : Bool → List Bool
   child b = s ++ (b ∷ [])
 
-  pub set-stands : (b : Bool) (node : ℕ) (values : List Value) → node ≡ q .start + length s → Stands q s values → Stands q (child b) (set values node (of-bool b))
+  set-stands : (b : Bool) (node : ℕ) (values : List Value) → node ≡ q .start + length s → Stands q s values → Stands q (child b) (set values node (of-bool b))
   set-stands b node values is stands =
       take-set-in (1 + q .variables) values node (of-bool b) ∙ ap₂ (λ xs i. set xs i (of-bool b)) stands is ∙ sym (inputs-more q sound s b (omega arith))
 
-  pub turn-stands : (b c : Bool) (node : ℕ) (values : List Value) → node ≡ q .start + length s → Stands q (child b) values → Stands q (child c) (set values node (of-bool c))
+  turn-stands : (b c : Bool) (node : ℕ) (values : List Value) → node ≡ q .start + length s → Stands q (child b) values → Stands q (child c) (set values node (of-bool c))
   turn-stands b c node values is stands =
       take-set-in (1 + q .variables) values node (of-bool c) ∙ ap₂ (λ xs i. set xs i (of-bool c)) (stands ∙ inputs-more q sound s b (omega arith)) is
       ∙ set-set (inputs-at q s) (q .start + length s) (of-bool b) (of-bool c) ∙ sym (inputs-more q sound s c (omega arith))
@@ -120,7 +126,7 @@ module _ (q : Query) (sound : Sound q) (k : ℕ) (s : List Bool) (fits : length 
       take-set-in (1 + q .variables) values node Unknown ∙ ap₂ (λ xs i. set xs i Unknown) stands is ∙ inputs-back q sound s b (omega arith)
 
   -- the settings of a child are read back
-  pub child-settings : (b : Bool) (values : List Value) → Stands q (child b) values → settings-at (q .start) (q .free - (k - 1)) values ≡ child b
+  child-settings : (b : Bool) (values : List Value) → Stands q (child b) values → settings-at (q .start) (q .free - (k - 1)) values ≡ child b
   child-settings b values stands =
       let l = length-push s b in
       settings-back q sound (child b) (q .free - (k - 1)) values (omega arith) (omega arith) stands
@@ -130,7 +136,7 @@ module _ (q : Query) (sound : Sound q) (k : ℕ) (s : List Bool) (fits : length 
     split-is = ap (λ j. tree q j s) (let e : k ≡ suc (k - 1) = omega arith in e) ∙ tree-split q s (k - 1) unknown
 
     -- the first way has no no move
-    pub ended-first : (r : Reply) (after : List Value) (marks : List Bool) (values : List Value) → r ≡ reply-of (tree q (k - 1) (child false)) (n - 1) → ((m : ℕ) → r ≢ NoMove m) →
+    ended-first : (r : Reply) (after : List Value) (marks : List Bool) (values : List Value) → r ≡ reply-of (tree q (k - 1) (child false)) (n - 1) → ((m : ℕ) → r ≢ NoMove m) →
         after ≡ range-after (tree q (k - 1) (child false)) (n - 1) (q .free) → (r′ : Reply) → r′ ≡ later 1 r → Ended q k s n r′ after old marks values
     ended-first r after marks values reply other range r′ is =
         let a = tree q (k - 1) (child false) in
@@ -148,13 +154,7 @@ module _ (q : Query) (sound : Sound q) (k : ℕ) (s : List Bool) (fits : length 
       lost : Lost (tree q (k - 1) (child false)) (n - 1) m
       lost = no-move-says (tree q (k - 1) (child false)) (n - 1) m (sym reply)
 
-      pub lost-within : m ≤ n - 1
-      lost-within = lost .within
-
-      pub still-unset : range-after (tree q (k - 1) (child false)) (n - 1) (q .free) ≡ replicate (q .free) Unknown
-      still-unset = range-no-move (tree q (k - 1) (child false)) (n - 1) m (q .free) (sym reply)
-
-      pub ended-second : (r : Reply) (after : List Value) (marks : List Bool) (node : ℕ) (values : List Value) → node ≡ q .start + length s → Ended q (k - 1) (child true) (n - (1 + m)) r after middle marks values →
+      ended-second : (r : Reply) (after : List Value) (marks : List Bool) (node : ℕ) (values : List Value) → node ≡ q .start + length s → Ended q (k - 1) (child true) (n - (1 + m)) r after middle marks values →
           (r′ : Reply) → r′ ≡ later (1 + m) r → Ended q k s n r′ after old marks (set values node Unknown)
       ended-second r after marks node values at high r′ is =
           let a = tree q (k - 1) (child false) in
@@ -173,9 +173,9 @@ module _ (q : Query) (sound : Sound q) (k : ℕ) (s : List Bool) (fits : length 
           core-long : length (core-of (tree q (k - 1) (child false) .outcome) (nodes q)) ≡ nodes q
           core-long = ap (λ o. length (core-of o (nodes q))) (lost .loss) ∙ length-lost q (k - 1) (child false) (lost .core) (lost .loss)
 
--- A node that is split, in the terms of code that asks with k of `free` variables unset: `before` are the values that it was asked with,
--- `values` those after the walk.
-module _ (ask : Ask) (forced : List Value) (free k : ℕ) (before values : List Value) where
+-- A node that is split, in the terms of code that asks with k of `free` variables unset and n steps allowed: `before` are the values that it
+-- was asked with, `values` those after the walk, `old` the marks.
+module _ (ask : Ask) (forced : List Value) (free k : ℕ) (before values : List Value) (n : ℕ) (old : List Bool) (root : Value) where
   abbrev asks : Query
   asks = asked ask forced free
 
@@ -186,77 +186,78 @@ module _ (ask : Ask) (forced : List Value) (free k : ℕ) (before values : List 
   abbrev next : ℕ
   next = ask .start + (free - k)
 
-  -- what is needed for both calls
-  pub record Split : Type 0 where
-    pub sound : Sound asks
-    pub stands : Stands asks here before
-    pub kept : take (1 + ask .variables) values ≡ take (1 + ask .variables) before
-    pub fits : k ≤ free
-    pub left : 1 ≤ k
-
-  module _ (w : Split) where
+  -- what is known before the first call
+  module _ (sound : Sound asks) (stands : Stands asks here before) (value : root ≡ lit (reads (values-of (asks .gates) (reads forced) (take (1 + ask .variables) before))) (asks .root))
+      (kept : take (1 + ask .variables) values ≡ take (1 + ask .variables) before) (not-false : root ≢ False) (not-true : root ≢ True) (fits : k ≤ free) (left : k ≢ 0) (some : n ≢ 0)
+      (marked-all : length old ≡ length forced) where
     long : length here + k ≡ free
-    long = let f = w .fits in omega (arith, length-settings asks (w .sound) here (free - k) before (omega arith) (w .stands))
+    long = omega (arith, length-settings asks sound here (free - k) before (omega arith) stands)
 
     at : next ≡ ask .start + length here
-    at = let f = w .fits in omega (arith, long)
+    at = omega (arith, long)
+
+    some-left : 1 ≤ k
+    some-left = omega arith
+
+    some-steps : 1 ≤ n
+    some-steps = omega arith
+
+    unknown : root-at asks here ≡ Unknown
+    unknown = sym (value ∙ ap (λ vs. lit (reads (values-of (asks .gates) (reads forced) vs)) (asks .root)) stands) ∙ unknown-left root not-false not-true
+
+    size : length old ≡ nodes asks
+    size = marked-all ∙ sound .covered
 
     -- the settings of the first child
-    pub first-stands : Stands asks (here ++ (false ∷ [])) (set values next False)
-    first-stands = set-stands asks (w .sound) k here long (w .left) false next values at (w .kept ∙ w .stands)
+    first-stands : Stands asks (here ++ (false ∷ [])) (set values next False)
+    first-stands = set-stands asks sound k here long some-left false next values at (kept ∙ stands)
 
-    pub first-is : settings-at (ask .start) (free - (k - 1)) (set values next False) ≡ here ++ (false ∷ [])
-    first-is = child-settings asks (w .sound) k here long (w .left) false (set values next False) first-stands
+    first-is : settings-at (ask .start) (free - (k - 1)) (set values next False) ≡ here ++ (false ∷ [])
+    first-is = child-settings asks sound k here long some-left false (set values next False) first-stands
 
     pub first-asked : Stands asks (settings-at (ask .start) (free - (k - 1)) (set values next False)) (set values next False)
     first-asked = subst (λ s. Stands asks s (set values next False)) (sym first-is) first-stands
 
-    module _ (n : ℕ) (some : 1 ≤ n) (unknown : root-at asks here ≡ Unknown) (old : List Bool) (size : length old ≡ nodes asks) where
-      pub node-first : (r : Reply) (after : List Value) (marks : List Bool) (last : List Value) → r ≡ reply-of (answer-at ask forced free (k - 1) (set values next False)) (n - 1) → ((m : ℕ) → r ≢ NoMove m) →
-          after ≡ range-after (answer-at ask forced free (k - 1) (set values next False)) (n - 1) free → (r′ : Reply) → r′ ≡ later 1 r → Ended asks k here n r′ after old marks last
-      node-first r after marks last reply other range r′ is =
-          ended-first asks (w .sound) k here long (w .left) n some unknown old size r after marks last (reply ∙ ap (λ s. reply-of (tree asks (k - 1) s) (n - 1)) first-is) other
-          (range ∙ ap (λ s. range-after (tree asks (k - 1) s) (n - 1) free) first-is) r′ is
+    pub node-first : (r : Reply) (after : List Value) (marks : List Bool) (last : List Value) → r ≡ reply-of (answer-at ask forced free (k - 1) (set values next False)) (n - 1) → ((m : ℕ) → r ≢ NoMove m) →
+        after ≡ range-after (answer-at ask forced free (k - 1) (set values next False)) (n - 1) free → (r′ : Reply) → r′ ≡ later 1 r → Ended asks k here n r′ after old marks last
+    node-first r after marks last reply other range r′ is =
+        ended-first asks sound k here long some-left n some-steps unknown old size r after marks last (reply ∙ ap (λ s. reply-of (tree asks (k - 1) s) (n - 1)) first-is) other
+        (range ∙ ap (λ s. range-after (tree asks (k - 1) s) (n - 1) free) first-is) r′ is
 
-      -- after a no move of the first child, which left the values `low`
-      module _ (m : ℕ) (middle : List Bool) (low : List Value) (reply : NoMove m ≡ reply-of (answer-at ask forced free (k - 1) (set values next False)) (n - 1))
-          (marked : middle ≡ join old (core-of (answer-at ask forced free (k - 1) (set values next False) .outcome) (length forced)))
-          (same : take (1 + ask .variables) low ≡ take (1 + ask .variables) (set values next False)) where
-        first-reply′ : NoMove m ≡ reply-of (tree asks (k - 1) (here ++ (false ∷ []))) (n - 1)
-        first-reply′ = reply ∙ ap (λ s. reply-of (tree asks (k - 1) s) (n - 1)) first-is
+    -- after a no move of the first child in m steps, which left the values `low` and the marks `middle`; `room` is as long as the range
+    module _ (m : ℕ) (middle : List Bool) (low : List Value) (reply : NoMove m ≡ reply-of (answer-at ask forced free (k - 1) (set values next False)) (n - 1))
+        (marked : middle ≡ join old (core-of (answer-at ask forced free (k - 1) (set values next False) .outcome) (length forced)))
+        (same : take (1 + ask .variables) low ≡ take (1 + ask .variables) (set values next False)) (room : ℕ) (whole : room ≡ free) where
+      pub second-unset : range-after (answer-at ask forced free (k - 1) (set values next False)) (n - 1) free ≡ replicate room Unknown
+      second-unset = range-no-move (answer-at ask forced free (k - 1) (set values next False)) (n - 1) m free (sym reply) ∙ ap (λ z. replicate z Unknown) (sym whole)
 
-        pub second-unset : range-after (answer-at ask forced free (k - 1) (set values next False)) (n - 1) free ≡ replicate free Unknown
-        second-unset = range-no-move (answer-at ask forced free (k - 1) (set values next False)) (n - 1) m free (sym reply)
+      second-stands : Stands asks (here ++ (true ∷ [])) (set low next True)
+      second-stands = turn-stands asks sound k here long some-left false true next low at (same ∙ first-stands)
 
-        pub second-stands : Stands asks (here ++ (true ∷ [])) (set low next True)
-        second-stands = turn-stands asks (w .sound) k here long (w .left) false true next low at (same ∙ first-stands)
+      second-is : settings-at (ask .start) (room - (k - 1)) (set low next True) ≡ here ++ (true ∷ [])
+      second-is = ap (λ z. settings-at (ask .start) (z - (k - 1)) (set low next True)) whole ∙ child-settings asks sound k here long some-left true (set low next True) second-stands
 
-        -- `room` is as long as the range
-        module _ (room : ℕ) (whole : room ≡ free) where
-          pub second-is : settings-at (ask .start) (room - (k - 1)) (set low next True) ≡ here ++ (true ∷ [])
-          second-is = ap (λ z. settings-at (ask .start) (z - (k - 1)) (set low next True)) whole ∙ child-settings asks (w .sound) k here long (w .left) true (set low next True) second-stands
+      pub second-asked : Stands asks (settings-at (ask .start) (room - (k - 1)) (set low next True)) (set low next True)
+      second-asked = subst (λ s. Stands asks s (set low next True)) (sym second-is) second-stands
 
-          pub second-asked : Stands asks (settings-at (ask .start) (room - (k - 1)) (set low next True)) (set low next True)
-          second-asked = subst (λ s. Stands asks s (set low next True)) (sym second-is) second-stands
+      second-answer : answer-at ask forced room (k - 1) (set low next True) ≡ tree asks (k - 1) (here ++ (true ∷ []))
+      second-answer = ap (tree (asked ask forced room) (k - 1)) second-is ∙ ap (λ z. tree (asked ask forced z) (k - 1) (here ++ (true ∷ []))) whole
 
-          second-answer : answer-at ask forced room (k - 1) (set low next True) ≡ tree asks (k - 1) (here ++ (true ∷ []))
-          second-answer = ap (tree (asked ask forced room) (k - 1)) second-is ∙ ap (λ z. tree (asked ask forced z) (k - 1) (here ++ (true ∷ []))) whole
-
-          pub node-second : (r : Reply) (after : List Value) (marks : List Bool) (last : List Value) → r ≡ reply-of (answer-at ask forced room (k - 1) (set low next True)) (n - 1 - m) →
-              after ≡ range-after (answer-at ask forced room (k - 1) (set low next True)) (n - 1 - m) room →
-              ((j : ℕ) → r ≡ NoMove j → marks ≡ join middle (core-of (answer-at ask forced room (k - 1) (set low next True) .outcome) (length forced))) →
-              ((j : ℕ) → r ≡ NoMove j → take (1 + ask .variables) last ≡ take (1 + ask .variables) (set low next True)) →
-              (r′ : Reply) → r′ ≡ later (1 + m) r → Ended asks k here n r′ after old marks (set last next Unknown)
-          node-second r after marks last second range cores inputs r′ is =
-              let less : n - 1 - m ≡ n - (1 + m) = omega arith in
-              let covered = w .sound .covered in
-              ended-second asks (w .sound) k here long (w .left) n some unknown old size m middle first-reply′
-              (marked ∙ ap (λ z. join old (core-of (answer-at ask forced free (k - 1) (set values next False) .outcome) z)) covered ∙ ap (λ s. join old (core-of (tree asks (k - 1) s .outcome) (nodes asks))) first-is)
-              r after marks next last at
-              (record {
-                reply = second ∙ ap₂ reply-of second-answer less;
-                range = range ∙ ap (λ z. range-after (answer-at ask forced room (k - 1) (set low next True)) (n - 1 - m) z) whole ∙ ap₂ (λ a z. range-after a z free) second-answer less;
-                cores = λ j e. cores j e ∙ ap₂ (λ a z. join middle (core-of (a .outcome) z)) second-answer covered;
-                inputs = λ j e. inputs j e ∙ second-stands;
-              })
-              r′ is
+      pub node-second : (r : Reply) (after : List Value) (marks : List Bool) (last : List Value) → r ≡ reply-of (answer-at ask forced room (k - 1) (set low next True)) (n - 1 - m) →
+          after ≡ range-after (answer-at ask forced room (k - 1) (set low next True)) (n - 1 - m) room →
+          ((j : ℕ) → r ≡ NoMove j → marks ≡ join middle (core-of (answer-at ask forced room (k - 1) (set low next True) .outcome) (length forced))) →
+          ((j : ℕ) → r ≡ NoMove j → take (1 + ask .variables) last ≡ take (1 + ask .variables) (set low next True)) →
+          (r′ : Reply) → r′ ≡ later (1 + m) r → Ended asks k here n r′ after old marks (set last next Unknown)
+      node-second r after marks last second range cores inputs r′ is =
+          let less : n - 1 - m ≡ n - (1 + m) = omega arith in
+          let covered = sound .covered in
+          ended-second asks sound k here long some-left n some-steps unknown old size m middle (reply ∙ ap (λ s. reply-of (tree asks (k - 1) s) (n - 1)) first-is)
+          (marked ∙ ap (λ z. join old (core-of (answer-at ask forced free (k - 1) (set values next False) .outcome) z)) covered ∙ ap (λ s. join old (core-of (tree asks (k - 1) s .outcome) (nodes asks))) first-is)
+          r after marks next last at
+          (record {
+            reply = second ∙ ap₂ reply-of second-answer less;
+            range = range ∙ ap (λ z. range-after (answer-at ask forced room (k - 1) (set low next True)) (n - 1 - m) z) whole ∙ ap₂ (λ a z. range-after a z free) second-answer less;
+            cores = λ j e. cores j e ∙ ap₂ (λ a z. join middle (core-of (a .outcome) z)) second-answer covered;
+            inputs = λ j e. inputs j e ∙ second-stands;
+          })
+          r′ is

@@ -54,18 +54,6 @@ no-move-says a n m e =
         let cost : a .need ≡ m = ap steps-of (sym (reply-paid a n h ∙ ap (λ o. paid o (a .need)) is) ∙ e) in
         record { core = c; loss = is; cost = cost; within = omega arith }
 
--- a reply reports no more than the allowance
-pub reply-within : (a : Answer) (n : ℕ) → steps-of (reply-of a n) ≤ n
-reply-within a n =
-    elim (cases-lt n (a .need)) [
-      | inl h ↦ omega (arith, ap steps-of (reply-spent a n h))
-      | inr h ↦ omega (arith, ap steps-of (reply-paid a n h), paid-steps (a .outcome))
-    ]
-  where
-    paid-steps : (o : Outcome) → steps-of (paid o (a .need)) ≡ a .need
-    paid-steps (moves s) = refl
-    paid-steps (loses c) = refl
-
 -- the range is unset unless the reply is a move
 pub range-no-move : (a : Answer) (n m f : ℕ) → reply-of a n ≡ NoMove m → range-after a n f ≡ replicate f Unknown
 range-no-move a n m f e = let l = no-move-says a n m e in range-paid a n f (omega (arith, l .cost, l .within)) ∙ ap (λ o. setting-of o f) (l .loss)

@@ -1,19 +1,17 @@
 use mathlib.Core.Path.{_≡_, refl, sym, ap, subst, _∙_}
 use mathlib.Core.Logic.{inl, inr}
 use mathlib.Core.List.{map}
-use Prim.Native.Nat.{_+_, _-_, _≤_}
+use Prim.Native.Nat.{_+_, _-_}
 use native.Mathlib.Omega.{arith}
-use lib.ListN.{length, take, drop, replicate, length-set}
-use Rattle.valuation.specs.declared.Value.the-variants.{Unknown}
+use lib.ListN.{length, take, drop, length-set}
 use Rattle.circuit.proofs.Records.{length-pairs}
-use Rattle.search.specs.Queries.{Query, Sound, nodes}
+use Rattle.search.specs.Queries.{Query, Sound}
 use Rattle.search.specs.Asking.{asked}
 use Rattle.search.specs.Answers.{core-of}
-use Rattle.splitting.specs.Tree.{root-at, join, tree}
+use Rattle.splitting.specs.Tree.{join, tree}
 use Rattle.splitting.specs.Steps.{settings-at, settled, answer-at}
 use Rattle.splitting.proofs.Standing.{length-settings}
-use Rattle.splitting.proofs.Branches.{ended-spent, root-is, ended-lost, ended-moved, Split, first-asked, node-first, second-unset, second-asked, node-second}
-use Rattle.splitter.proofs.Single.{unknown-left}
+use Rattle.splitting.proofs.Branches.{unknown-left, ended-spent, ended-lost, ended-moved, first-asked, node-first, second-unset, second-asked, node-second}
 use Rattle.splitter.proofs.branching.+branch.Needs as need
 use Rattle.splitter.proofs.branching.+branch.Needs.{then-eq-2·by·then-eq-2, then-eq-2·by·else-eq-2·then-unset-eq0}
 
@@ -26,7 +24,7 @@ returns-then-ask-eq0 t c =
       reply = e .reply;
       range = c .pre .unset ∙ e .range;
       marks = λ n r. e .cores n r ∙ ap (λ z. join (c .args .marks .now) (core-of (tree q (c .args .unset) s .outcome) z)) (sym (c .pre .sound .covered));
-      inputs = λ n r. refl;
+      inputs = λ n r. refl {a = take (1 + c .args .ask .variables) (c .args .values .now)};
     }
 
 pub root-value-root-requires : need.root-value-root-requires
@@ -90,9 +88,12 @@ branch-low-requires t c κs =
     let k = c .args .unset in
     let before = c .args .values .now in
     let values = c .root-value-root .last .values in
-    let w : Split ask forced free k before values = record { sound = c .pre .sound; stands = c .pre .stands; kept = c .root-value-root .ensures .inputs; fits = c .pre .fits; left = omega (arith, c .if-unset-eq0 .left) } in (
-      let m : k ≡ t = c .measured in omega (arith, w .left),
-      (c .pre .sound, (first-asked ask forced free k before values w, (omega arith, (simp length-set (c .root-value-root .kept .values ∙ c .pre .valued), (c .pre .unset, c .pre .markable))))),
+    let old = c .args .marks .now in
+    let r = c .root-value-root .ensures in
+    let stands = first-asked ask forced free k before values (ask .allowance) old (c .root-value-root .result)
+    (c .pre .sound) (c .pre .stands) (r .value) (r .inputs) (c .if-eq .ensures tt) (c .if-eq-2 .ensures tt) (c .pre .fits) (c .if-unset-eq0 .left) (c .if-ask-eq0 .left) (c .pre .markable) in (
+      let m : k ≡ t = c .measured in omega (arith, c .if-unset-eq0 .left),
+      (c .pre .sound, (stands, (omega arith, (simp length-set (c .root-value-root .kept .values ∙ c .pre .valued), (c .pre .unset, c .pre .markable))))),
     )
 
 pub returns-in-rest-low : need.returns-in-rest-low
@@ -103,22 +104,17 @@ returns-in-rest-low t c =
     let k = c .args .unset in
     let before = c .args .values .now in
     let values = c .root-value-root .last .values in
-    let w : Split ask forced free k before values = record { sound = c .pre .sound; stands = c .pre .stands; kept = c .root-value-root .ensures .inputs; fits = c .pre .fits; left = omega (arith, c .if-unset-eq0 .left) } in
-    let n = ask .allowance in
     let old = c .args .marks .now in
-    let some : 1 ≤ n = omega (arith, c .if-ask-eq0 .left) in
-    let size : length old ≡ nodes (asked ask forced free) = c .pre .markable ∙ c .pre .sound .covered in
     let r = c .root-value-root .ensures in
-    let unknown : root-at (asked ask forced free) (settings-at (ask .start) (free - k) before) ≡ Unknown =
-    sym (root-is (asked ask forced free) (c .pre .sound) k (settings-at (ask .start) (free - k) before) n old some before values (c .root-value-root .result) (c .pre .stands) (r .value) (r .walked) (r .inputs))
-    ∙ unknown-left (c .root-value-root .result) (c .if-eq .ensures tt) (c .if-eq-2 .ensures tt) in
-    let e = node-first ask forced free k before values w n some unknown old size (c .branch-low .result) (c .branch-low .last .range) (c .branch-low .last .marks) (c .branch-low .last .values)
+    let e = node-first ask forced free k before values (ask .allowance) old (c .root-value-root .result)
+    (c .pre .sound) (c .pre .stands) (r .value) (r .inputs) (c .if-eq .ensures tt) (c .if-eq-2 .ensures tt) (c .pre .fits) (c .if-unset-eq0 .left) (c .if-ask-eq0 .left) (c .pre .markable)
+    (c .branch-low .result) (c .branch-low .last .range) (c .branch-low .last .marks) (c .branch-low .last .values)
     (c .branch-low .ensures .reply) (c .in-rest-low .not-NoMove) (c .branch-low .ensures .range) (c .later .result) (c .later .ensures) in
     record {
       reply = e .reply;
       range = e .range;
-      marks = λ m r. e .cores m r ∙ ap (λ z. join old (core-of (answer-at ask forced free k before .outcome) z)) (sym (c .pre .sound .covered));
-      inputs = λ m r. e .inputs m r ∙ sym (c .pre .stands);
+      marks = λ j x. e .cores j x ∙ ap (λ z. join old (core-of (answer-at ask forced free k before .outcome) z)) (sym (c .pre .sound .covered));
+      inputs = λ j x. e .inputs j x ∙ sym (c .pre .stands);
     }
 
 pub branch-high-requires : need.branch-high-requires
@@ -129,34 +125,30 @@ branch-high-requires t c κs =
     let k = c .args .unset in
     let before = c .args .values .now in
     let values = c .root-value-root .last .values in
-    let w : Split ask forced free k before values = record { sound = c .pre .sound; stands = c .pre .stands; kept = c .root-value-root .ensures .inputs; fits = c .pre .fits; left = omega (arith, c .if-unset-eq0 .left) } in
-    let n = ask .allowance in
     let old = c .args .marks .now in
-    let some : 1 ≤ n = omega (arith, c .if-ask-eq0 .left) in
-    let size : length old ≡ nodes (asked ask forced free) = c .pre .markable ∙ c .pre .sound .covered in
     let r = c .root-value-root .ensures in
-    let unknown : root-at (asked ask forced free) (settings-at (ask .start) (free - k) before) ≡ Unknown =
-    sym (root-is (asked ask forced free) (c .pre .sound) k (settings-at (ask .start) (free - k) before) n old some before values (c .root-value-root .result) (c .pre .stands) (r .value) (r .walked) (r .inputs))
-    ∙ unknown-left (c .root-value-root .result) (c .if-eq .ensures tt) (c .if-eq-2 .ensures tt) in
     let m = c .in-NoMove-low .spent in
+    let low = c .in-NoMove-low .ensures tt in
     let middle = c .branch-low .last .marks in
     let last = c .branch-low .last .values in
-    let low = c .in-NoMove-low .ensures tt in
     let room = length (c .branch-low .last .range) in
-    let whole : room ≡ free = c .branch-low .kept .range in (
-      let m : k ≡ t = c .measured in omega (arith, w .left),
+    let whole : room ≡ free = c .branch-low .kept .range in
+    let stands = second-asked ask forced free k before values (ask .allowance) old (c .root-value-root .result)
+    (c .pre .sound) (c .pre .stands) (r .value) (r .inputs) (c .if-eq .ensures tt) (c .if-eq-2 .ensures tt) (c .pre .fits) (c .if-unset-eq0 .left) (c .if-ask-eq0 .left) (c .pre .markable)
+    m middle last (low .reply) (low .marks m refl) (low .inputs m refl) room whole in
+    let unset = second-unset ask forced free k before values (ask .allowance) old (c .root-value-root .result)
+    (c .pre .sound) (c .pre .stands) (r .value) (r .inputs) (c .if-eq .ensures tt) (c .if-eq-2 .ensures tt) (c .pre .fits) (c .if-unset-eq0 .left) (c .if-ask-eq0 .left) (c .pre .markable)
+    m middle last (low .reply) (low .marks m refl) (low .inputs m refl) room whole in (
+      let z : k ≡ t = c .measured in omega (arith, c .if-unset-eq0 .left),
       (
         subst (λ z. Sound (asked ask forced z)) (sym whole) (c .pre .sound),
         (
-          second-asked ask forced free k before values w n some unknown old size m middle last (low .reply) (low .marks m refl) (low .inputs m refl) room whole,
+          stands,
           (
             omega arith,
             (
               simp length-set (c .branch-low .kept .values ∙ simp length-set (c .root-value-root .kept .values ∙ c .pre .valued)),
-              (
-                low .range ∙ second-unset ask forced free k before values w n some unknown old size m middle last (low .reply) (low .marks m refl) (low .inputs m refl) ∙ ap (λ z. replicate z Unknown) (sym whole),
-                c .branch-low .kept .marks ∙ c .pre .markable,
-              ),
+              (low .range ∙ unset, c .branch-low .kept .marks ∙ c .pre .markable),
             ),
           ),
         ),
@@ -171,27 +163,22 @@ returns t c =
     let k = c .args .unset in
     let before = c .args .values .now in
     let values = c .root-value-root .last .values in
-    let w : Split ask forced free k before values = record { sound = c .pre .sound; stands = c .pre .stands; kept = c .root-value-root .ensures .inputs; fits = c .pre .fits; left = omega (arith, c .if-unset-eq0 .left) } in
-    let n = ask .allowance in
     let old = c .args .marks .now in
-    let some : 1 ≤ n = omega (arith, c .if-ask-eq0 .left) in
-    let size : length old ≡ nodes (asked ask forced free) = c .pre .markable ∙ c .pre .sound .covered in
     let r = c .root-value-root .ensures in
-    let unknown : root-at (asked ask forced free) (settings-at (ask .start) (free - k) before) ≡ Unknown =
-    sym (root-is (asked ask forced free) (c .pre .sound) k (settings-at (ask .start) (free - k) before) n old some before values (c .root-value-root .result) (c .pre .stands) (r .value) (r .walked) (r .inputs))
-    ∙ unknown-left (c .root-value-root .result) (c .if-eq .ensures tt) (c .if-eq-2 .ensures tt) in
     let m = c .in-NoMove-low .spent in
+    let low = c .in-NoMove-low .ensures tt in
     let middle = c .branch-low .last .marks in
     let last = c .branch-low .last .values in
-    let low = c .in-NoMove-low .ensures tt in
     let room = length (c .branch-low .last .range) in
     let whole : room ≡ free = c .branch-low .kept .range in
     let h = c .branch-high .ensures in
-    let e = node-second ask forced free k before values w n some unknown old size m middle last (low .reply) (low .marks m refl) (low .inputs m refl) room whole
+    let e = node-second ask forced free k before values (ask .allowance) old (c .root-value-root .result)
+    (c .pre .sound) (c .pre .stands) (r .value) (r .inputs) (c .if-eq .ensures tt) (c .if-eq-2 .ensures tt) (c .pre .fits) (c .if-unset-eq0 .left) (c .if-ask-eq0 .left) (c .pre .markable)
+    m middle last (low .reply) (low .marks m refl) (low .inputs m refl) room whole
     (c .branch-high .result) (c .branch-high .last .range) (c .branch-high .last .marks) (c .branch-high .last .values) (h .reply) (h .range) (h .marks) (h .inputs) (c .later-2 .result) (c .later-2 .ensures) in
     record {
       reply = e .reply;
       range = e .range;
-      marks = λ j r. e .cores j r ∙ ap (λ z. join old (core-of (answer-at ask forced free k before .outcome) z)) (sym (c .pre .sound .covered));
-      inputs = λ j r. e .inputs j r ∙ sym (c .pre .stands);
+      marks = λ j x. e .cores j x ∙ ap (λ z. join old (core-of (answer-at ask forced free k before .outcome) z)) (sym (c .pre .sound .covered));
+      inputs = λ j x. e .inputs j x ∙ sym (c .pre .stands);
     }
