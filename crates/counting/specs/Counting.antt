@@ -65,6 +65,7 @@ abbrev pub counted : Query → Option ℕ → Answer
 counted q (Some t) = record { outcome = moves (setting (q .free) t); need = group-of t + 1 }
 counted q None = record { outcome = loses (core q); need = groups (q .free) }
 
+-- what the counter answers
 abbrev pub counts : Query → Answer
 counts q = counted q (first-open (refutes q) 0 (2 ^ q .free))
 
@@ -73,5 +74,6 @@ abbrev pub One-to-one : Type 0
 One-to-one = ((s : List Bool) → (case-of s < 2 ^ length s) × (setting (length s) (case-of s) ≡ s))
     × ((f t : ℕ) → t < 2 ^ f → case-of (setting f t) ≡ t)
 
+-- the counter keeps what every searcher keeps
 abbrev pub Counts-keep : Type 0
 Counts-keep = Keeps counts

@@ -137,6 +137,43 @@ impl<S> Halver<S> {
     }
 }
 
+impl<S: Searcher> Halver<S> {
+    // Asks with the first variable forced false, and only after no move with it forced true.
+    fn halve(
+        &mut self,
+        ask: Ask<'_>,
+        forced: &mut [Value],
+        range: &mut [Value],
+        marks: &mut [bool],
+    ) -> Reply
+        requires sound { ⌜ Sound (asked ask (now forced) (length (now range))) ⌝ }
+        requires some { ⌜ 0 < length (now range) ⌝ }
+        requires unset { ⌜ now range ≡ replicate (length (now range)) Unknown ⌝ }
+        requires unmarked { ⌜ now marks ≡ replicate (length (now forced)) false ⌝ }
+        ensures same { λ _. ⌜ S·Searcher .meaning (now (self .exit) .below) ≡ S·Searcher .meaning (now (self .entry) .below) ⌝ }
+        ensures put_back { λ _. ⌜ now (forced .exit) ≡ now (forced .entry) ⌝ }
+        ensures reply { λ r. ⌜ r ≡ reply-of (halves (S·Searcher .meaning (now (self .entry) .below)) (asked (ask .entry) (now (forced .entry)) (length (now (range .entry))))) (ask .entry .allowance) ⌝ }
+        ensures range { λ _. ⌜ now (range .exit) ≡ range-after (halves (S·Searcher .meaning (now (self .entry) .below)) (asked (ask .entry) (now (forced .entry)) (length (now (range .entry))))) (ask .entry .allowance) (length (now (range .entry))) ⌝ }
+        ensures marks { λ _. ⌜ now (marks .exit) ≡ marks-after (halves (S·Searcher .meaning (now (self .entry) .below)) (asked (ask .entry) (now (forced .entry)) (length (now (range .entry))))) (ask .entry .allowance) (length (now (forced .entry))) ⌝ }
+    {
+        if ask.allowance == 0 {
+            return Reply::Spent;
+        }
+        let left = ask.allowance - 1;
+        let first = half(&mut self.below, ask, left, false, forced, range, marks);
+        let Reply::NoMove(need) = first else {
+            return later(1, first);
+        };
+        self.core.take_over(marks);
+        let left = left - need;
+        let second = half(&mut self.below, ask, left, true, forced, range, marks);
+        if let Reply::NoMove(_) = second {
+            self.core.join_to(ask.start, marks);
+        }
+        later(1 + need, second)
+    }
+}
+
 pub impl<S: Searcher> Searcher for Halver<S> as HalverSearcher {
     ghost meaning = { λ s. halves (S·Searcher .meaning (s .below)) };
 
@@ -148,29 +185,9 @@ pub impl<S: Searcher> Searcher for Halver<S> as HalverSearcher {
         marks: &mut [bool],
     ) -> Reply {
         if range.len() == 0 {
-            return self.below.query(ask, forced, range, marks);
+            self.below.query(ask, forced, range, marks)
+        } else {
+            self.halve(ask, forced, range, marks)
         }
-        if ask.allowance == 0 {
-            return Reply::Spent;
-        }
-        let left = ask.allowance - 1;
-        let first = half(&mut self.below, ask, left, false, forced, range, marks);
-        let Reply::NoMove(need) = first else {
-            return later(1, first);
-        };
-        self.core.take_over(marks);
-        let second = half(
-            &mut self.below,
-            ask,
-            left - need,
-            true,
-            forced,
-            range,
-            marks,
-        );
-        if let Reply::NoMove(_) = second {
-            self.core.join_to(ask.start, marks);
-        }
-        later(1 + need, second)
     }
 }

@@ -149,7 +149,7 @@ ceiling-halves f h =
     omega (arith, p, pow-add 2 f 1, pow-pos f)
 
 module _ (m : Query → Answer) (q : Query) where
-  pub halves-none : q .free ≡ 0 → halves m q ≡ m q
+  halves-none : q .free ≡ 0 → halves m q ≡ m q
   halves-none e = cond-true (eqb (q .free) 0) _ _ (eq-eqb (q .free) 0 e)
 
   pub halves-some : 0 < q .free → halves m q ≡ either (q .start) (half m q false .outcome) (half m q false .need) (half m q true)

@@ -36,9 +36,10 @@ abbrev pub either : ℕ → Outcome → ℕ → Answer → Answer
 either node (moves s) need second = record { outcome = moves s; need = 1 + need }
 either node (loses core) need second = record { outcome = after-loss node core (second .outcome); need = 1 + need + second .need }
 
--- with no free variable the query is passed on
+-- what a halver answers: with no free variable the query is passed on
 abbrev pub halves : (Query → Answer) → Query → Answer
 halves m q = cond (eqb (q .free) 0) (m q) (either (q .start) (half m q false .outcome) (half m q false .need) (half m q true))
 
+-- over a meaning that keeps what every searcher keeps, the halver's keeps it too
 abbrev pub Halves-keep : Type 0
 Halves-keep = (m : Query → Answer) → Keeps m → Keeps (halves m)

@@ -31,7 +31,7 @@ returns-in-Some c =
 pub loop-group-again : need.loop-group-again
 loop-group-again c =
     let q : Query = asked (c .args .ask) (c .args .forced .now) (length (c .args .range .now)) in
-    (omega arith, tried-more q (c .loop-group .group) (c .loop-group .inv .1) (sym (c .in-rest .ensures tt)), c .loop-group .inv .2)
+    (omega arith, tried-more q (c .loop-group .group) (c .loop-group .inv .1) (sym (c .in-rest .ensures tt)), c .loop-group .inv .2, omega arith)
 
 pub returns : need.returns
 returns c =

@@ -7,4 +7,4 @@ use Rattle.counter.proofs.CounterSearcher.query.Given as given
 
 -- the groups so far are paid for, all of their cases are refuted, and nothing is written
 abbrev pub Inv-loop-group : given.InvT-loop-group
-Inv-loop-group l = (l .group ≤ l .ask .allowance) × Tried (asked (l .ask) (l .forced) (length (l .entry .range))) (l .group) × (l .range ≡ l .entry .range)
+Inv-loop-group l = (l .group ≤ l .ask .allowance) × Tried (asked (l .ask) (l .forced) (length (l .entry .range))) (l .group) × (l .range ≡ l .entry .range) × (l .group ≤ l .groups)

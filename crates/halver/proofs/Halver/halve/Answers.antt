@@ -1,6 +1,6 @@
 use mathlib.Core.Path.{_≡_, refl, sym, ap, ap₂, subst, _∙_}
 use mathlib.Core.Bool.{true, false}
-use Prim.Native.Nat.{ℕ, _+_, _-_, _<_}
+use Prim.Native.Nat.{ℕ, _+_, _-_}
 use native.Mathlib.Omega.{arith}
 use lib.ListN.{length, replicate}
 use Rattle.std.proofs.shelf.Lists.{length-replicate}
@@ -9,34 +9,20 @@ use Rattle.search.specs.declared.Reply.the-variants.{NoMove}
 use Rattle.search.specs.Queries.{Query, Sound}
 use Rattle.search.specs.Asking.{asked}
 use Rattle.search.specs.Answers.{reply-of, range-after, marks-after}
-use Rattle.halving.specs.Halving.{half, joined, halves}
+use Rattle.halving.specs.Halving.{half, joined}
 use Rattle.halving.specs.Replies.{steps-of}
-use Rattle.halving.proofs.Halved.{halves-none, halves-some}
+use Rattle.halving.proofs.Halved.{halves-some}
 use Rattle.search.proofs.Shown.{Shown}
 use Rattle.halving.proofs.Replies.{at-once, within, by-first, by-second, second-shown, lost-unset, joined-kept}
-use Rattle.halver.proofs.HalverSearcher.query.Needs as need
-use Rattle.halver.proofs.HalverSearcher.query.Needs.{in-NoMove-second, in-rest-second}
-
-pub returns-then-range-eq0 : need.returns-then-range-eq0
-returns-then-range-eq0 g c =
-    let q : Query = asked (c .args .ask) (c .args .forced .now) (length (c .args .range .now)) in
-    let all = sym (halves-none (g .S·Searcher .meaning (c .args .self .now .below)) q (c .if-range-eq0 .taken)) in
-    let s = c .query .ensures in
-    record {
-      same = ap halves (s .same);
-      put-back = s .put-back;
-      reply = s .reply ∙ ap (λ a. reply-of a (c .args .ask .allowance)) all;
-      range = s .range ∙ ap (λ a. range-after a (c .args .ask .allowance) (q .free)) all;
-      marks = s .marks ∙ ap (λ a. marks-after a (c .args .ask .allowance) (length (q .forced))) all;
-    }
+use Rattle.halver.proofs.Halver.halve.Needs as need
+use Rattle.halver.proofs.Halver.halve.Needs.{in-NoMove-second, in-rest-second}
 
 pub returns-then-ask-eq0 : need.returns-then-ask-eq0
 returns-then-ask-eq0 g c =
     let q : Query = asked (c .args .ask) (c .args .forced .now) (length (c .args .range .now)) in
     let m = g .S·Searcher .meaning (c .args .self .now .below) in
-    let some : 0 < length (c .args .range .now) = omega arith in
     let both = at-once (q .start) (q .free) (length (q .forced)) (half m q false .outcome) (half m q false .need) (half m q true) (c .args .ask .allowance) (c .if-ask-eq0 .taken) in
-    let all = sym (halves-some m q some) in
+    let all = sym (halves-some m q (c .pre .some)) in
     record {
       same = refl;
       put-back = refl;
@@ -56,13 +42,12 @@ returns-in-rest g c =
     let m = g .S·Searcher .meaning (c .args .self .now .below) in
     let s = c .half-first .ensures in
     let one : c .args .ask .allowance ≡ 1 + (c .args .ask .allowance - 1) = omega arith in
-    let some : 0 < length (c .args .range .now) = omega arith in
     let first : Shown (half m q false) (c .args .ask .allowance - 1) (q .free) (length (q .forced)) (c .half-first .result) (c .half-first .last .range) (c .half-first .last .marks) =
     record { reply = s .reply; range = s .range; marks = s .marks } in
     let both = by-first (q .start) (q .free) (length (q .forced)) (c .args .ask .allowance) (c .args .ask .allowance - 1) one (half m q false .outcome) (half m q false .need) (half m q true) _ _ _ first (c .in-rest .not-NoMove) in
-    let all = sym (halves-some m q some) in
+    let all = sym (halves-some m q (c .pre .some)) in
     record {
-      same = ap halves (s .same);
+      same = s .same;
       put-back = s .put-back;
       reply = c .later .ensures ∙ both .reply ∙ ap (λ a. reply-of a (c .args .ask .allowance)) all;
       range = both .range ∙ ap (λ a. range-after a (c .args .ask .allowance) (q .free)) all;
@@ -99,7 +84,6 @@ returns g c =
     let m = g .S·Searcher .meaning (c .args .self .now .below) in
     let s = c .in-NoMove .ensures tt in
     let t = c .half-second .ensures in
-    let some : 0 < length (c .args .range .now) = omega arith in
     let one : c .args .ask .allowance ≡ 1 + (c .args .ask .allowance - 1) = omega arith in
     let first : Shown (half m q false) (c .args .ask .allowance - 1) (q .free) (length (q .forced)) (NoMove (c .in-NoMove .need)) (c .half-first .last .range) (c .half-first .last .marks) =
     record { reply = s .reply; range = s .range; marks = s .marks } in
@@ -118,9 +102,9 @@ returns g c =
     ] in
     let both = by-second (q .start) (q .free) (length (q .forced)) (c .args .ask .allowance) (c .args .ask .allowance - 1) one (half m q false .outcome) (half m q false .need) (half m q true)
     (c .in-NoMove .need) (c .half-first .last .range) (c .half-first .last .marks) first (c .half-second .result) (c .half-second .last .range) (c .half-second .last .marks) (c .match-second .marks) second lost other in
-    let all = sym (halves-some m q some) in
+    let all = sym (halves-some m q (c .pre .some)) in
     record {
-      same = ap halves (t .same ∙ s .same);
+      same = t .same ∙ s .same;
       put-back = t .put-back ∙ s .put-back;
       reply = c .later-2 .ensures ∙ both .reply ∙ ap (λ a. reply-of a (c .args .ask .allowance)) all;
       range = both .range ∙ ap (λ a. range-after a (c .args .ask .allowance) (q .free)) all;
