@@ -1,4 +1,6 @@
 // Reads a question from standard input, judges it whole, and prints what it did.
+#![tactic(auto)]
+
 use circuit::Gate;
 use question::{Block, Quantifier, Question, load};
 use std::io::Read;

@@ -1,6 +1,8 @@
 // What a bench does at a level, on plain slices: the cut of its root under the play, and the searcher's query.
 //
 // Callers are proved to meet what is required, and no test of it is run.
+#![tactic(auto)]
+
 ghost use Rattle.std.specs.Prelude.{◌≡◌, ◌+◌, ◌-◌, ◌*◌, ◌/◌, ◌<◌, ◌≤◌, false, ◌++◌, length, take, drop, replicate};
 ghost use Rattle.circuit.specs.Gates.{pairs};
 ghost use Rattle.question.specs.Blocks.{total};

@@ -2,6 +2,8 @@
 //
 // The types stand here and their calls in the modules below, which see the private fields: a file of specs/ that names a struct with a ghost
 // field cannot be imported by the file that declares it.
+#![tactic(auto)]
+
 ghost use Rattle.std.specs.Prelude.{◌≡◌, ℕ, ◌+◌, ◌-◌, ◌/◌, ◌<◌, ◌≤◌, false, length, take, drop, replicate, vec_len};
 ghost use Rattle.valuation.specs.declared.Value.TheVariants.{Unknown};
 ghost use Rattle.valuation.specs.Circuit.{Ascending};

@@ -1,4 +1,6 @@
 // Literals, gates, and the values of a circuit's nodes.
+#![tactic(auto)]
+
 ghost use Rattle.std.specs.Prelude.{◌≡◌, ◌/◌, ◌%◌, ◌==◌};
 ghost use Rattle.circuit.specs.Gates.{empty, pair};
 
@@ -34,7 +36,7 @@ impl Literal {
     }
 
     pub fn is_negated(self) -> bool
-        ensures { result ≡ (self.code % 2 == 1) }
+        ensures { result ≡ ((self.code % 2) == 1) }
     {
         self.code % 2 == 1
     }

@@ -35,7 +35,7 @@ fn input_value(node: usize, forced: Value, start: usize, settings: &[Value]) -> 
 // Writes the values of the inputs, the same in every case.
 pub fn set_inputs<K: Kind>(forced: &[Value], start: usize, settings: &[Value], inputs: &mut [K])
     requires covered { length inputs.old ≤ length forced.now }
-    ensures { (c : ℕ) → c < cases → map (λ v. at v c) inputs.new
+    ensures { (c : ℕ) → c < K.cases → map (λ v. K.at v c) inputs.new
         ≡ input_values (length inputs.old) (reads forced.now) (settings_from start settings.now) }
 {
     for (node, input) in inputs.iter_mut().enumerate() {
@@ -45,7 +45,7 @@ pub fn set_inputs<K: Kind>(forced: &[Value], start: usize, settings: &[Value], i
 
 // A value, or its negation.
 fn signed<K: Kind>(value: K, negated: bool) -> K
-    ensures { (c : ℕ) → c < cases → at result c ≡ by_sign negated (at value c) }
+    ensures { (c : ℕ) → c < K.cases → K.at result c ≡ by_sign negated (K.at value c) }
 {
     if negated { value.negated() } else { value }
 }
@@ -53,7 +53,7 @@ fn signed<K: Kind>(value: K, negated: bool) -> K
 // The value of a literal, by the values of the nodes.
 pub fn literal_value<K: Kind>(values: &[K], literal: Literal) -> K
     requires { literal.code < 2 * length values.now }
-    ensures { (c : ℕ) → c < cases → at result c ≡ lit (reads (map (λ v. at v c) values.now)) literal.code }
+    ensures { (c : ℕ) → c < K.cases → K.at result c ≡ lit (reads (map (λ v. K.at v c) values.now)) literal.code }
 {
     signed(values[literal.node()], literal.is_negated())
 }
@@ -62,7 +62,7 @@ pub fn literal_value<K: Kind>(values: &[K], literal: Literal) -> K
 fn gate_value<K: Kind>(values: &[K], gate: Gate, forced: Value) -> K
     requires left { (pair gate).left < 2 * length values.now }
     requires right { (pair gate).right < 2 * length values.now }
-    ensures { (c : ℕ) → c < cases → at result c ≡ or_else forced (both (reads (map (λ v. at v c) values.now)) (pair gate)) }
+    ensures { (c : ℕ) → c < K.cases → K.at result c ≡ or_else forced (both (reads (map (λ v. K.at v c) values.now)) (pair gate)) }
 {
     match forced {
         Value::Unknown => {
@@ -78,8 +78,8 @@ pub fn walk<K: Kind>(gates: &[Gate], forced: &[Value], first: usize, values: &mu
     requires ascending { Ascending first (pairs gates.now) }
     requires covered { first + length gates.now ≤ length forced.now }
     requires room { first + length gates.now ≤ length values.old }
-    ensures walked { (c : ℕ) → c < cases → map (λ v. at v c) (take (first + length gates.now) values.new)
-        ≡ values_of (pairs gates.now) (reads forced.now) (map (λ v. at v c) (take first values.old)) }
+    ensures walked { (c : ℕ) → c < K.cases → map (λ v. K.at v c) (take (first + length gates.now) values.new)
+        ≡ values_of (pairs gates.now) (reads forced.now) (map (λ v. K.at v c) (take first values.old)) }
     ensures beyond { drop (first + length gates.now) values.new ≡ drop (first + length gates.now) values.old }
 {
     for (k, gate) in gates.iter().enumerate() {
@@ -107,10 +107,10 @@ pub fn evaluate<K: Kind>(
     requires covered { first + length gates.now ≤ length forced.now }
     requires room { first + length gates.now ≤ length values.old }
     requires inside { literal.code / 2 < first + length gates.now }
-    ensures value { (c : ℕ) → c < cases → at result c
-        ≡ lit (reads (values_of (pairs gates.now) (reads forced.now) (map (λ v. at v c) (take first values.old)))) literal.code }
-    ensures walked { (c : ℕ) → c < cases → map (λ v. at v c) (take (literal.code / 2 + 1) values.new)
-        ≡ take (literal.code / 2 + 1) (values_of (pairs gates.now) (reads forced.now) (map (λ v. at v c) (take first values.old))) }
+    ensures value { (c : ℕ) → c < K.cases → K.at result c
+        ≡ lit (reads (values_of (pairs gates.now) (reads forced.now) (map (λ v. K.at v c) (take first values.old)))) literal.code }
+    ensures walked { (c : ℕ) → c < K.cases → map (λ v. K.at v c) (take (literal.code / 2 + 1) values.new)
+        ≡ take (literal.code / 2 + 1) (values_of (pairs gates.now) (reads forced.now) (map (λ v. K.at v c) (take first values.old))) }
     ensures beyond { drop (first + (literal.code / 2 + 1 - first)) values.new ≡ drop (first + (literal.code / 2 + 1 - first)) values.old }
 {
     let count = gates_up_to(literal, first);

@@ -1,4 +1,6 @@
 // Settlements: what copies of a core are, why they are right, and what is made of them.
+#![tactic(auto)]
+
 ghost use Rattle.copies.specs.Claims.{CopiesJust, CopiesOwn, SettlesJust, SettlesFalls, SettlesOwn};
 ghost use Rattle.copies.specs.Claims.{CoreTrue, CoreForces, CoreMarked, CoreSame};
 ghost use Rattle.copies.specs.Claims.{SettlementMade, SettlementRight, RootValue, GatesCounted};

@@ -2,6 +2,8 @@
 //
 // A node in a polarity is written as one of its literals, its place: the plain literal for positive polarity, the negated for negative.
 // Callers are proved to meet what is required, and no test of it is run.
+#![tactic(auto)]
+
 ghost use Rattle.std.specs.Prelude.{◌≡◌, ℕ, ◌+◌, ◌≤◌, length, take, replicate};
 ghost use Rattle.circuit.specs.Gates.{pairs};
 ghost use Rattle.copying.specs.Claims.{TableKept};

@@ -1,4 +1,6 @@
 // The counter: a searcher that tries every setting of the range, 64 cases at a step.
+#![tactic(auto)]
+
 ghost use Rattle.std.specs.Prelude.{◌≡◌, ℕ, ◌+◌, ◌*◌, ◌^◌, ◌<◌, ◌≤◌, false, not, ◌&&◌, map, length, replicate, vec_len, nat_lt};
 ghost use Rattle.valuation.specs.Rails.{on};
 ghost use Rattle.valuation.specs.Three.{of_bool};

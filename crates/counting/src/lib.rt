@@ -1,4 +1,6 @@
 // What a counter answers, and that it keeps what every searcher keeps.
+#![tactic(auto)]
+
 ghost use Rattle.counting.specs.Counting.{CountsKeep, OneToOne};
 
 // Cases and settings correspond one to one.

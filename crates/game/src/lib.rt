@@ -1,4 +1,6 @@
 // The game on a prefix, and what holds of every run of the method on it: theorems only.
+#![tactic(auto)]
+
 ghost use Rattle.game.specs.Prefix.{LastLevel};
 ghost use Rattle.game.specs.Game.{SameGame};
 ghost use Rattle.game.specs.Strategy.{PositionsDecided, StrategiesDecide, OpeningsDecided};

@@ -1,4 +1,6 @@
 // The halver: a searcher over another, which it asks once for each value of the first free variable.
+#![tactic(auto)]
+
 ghost use Rattle.std.specs.Prelude.{◌≡◌, ◌+◌, ◌^◌, ◌<◌, ◌≤◌, false, length, take, replicate, vec_len, MatchResult};
 ghost use Rattle.valuation.specs.declared.Value.TheVariants.{Unknown};
 ghost use Rattle.valuation.specs.Three.{of_bool};

@@ -1,4 +1,6 @@
 // Asks a searcher any query, after a test that the query is sound: for tests and for makers who try a searcher of their own.
+#![tactic(auto)]
+
 ghost use Rattle.std.specs.Prelude.{◌≡◌, ℕ, ◌+◌, ◌*◌, ◌<◌, ◌≤◌, true, false, ◌≢◌, length, replicate, MatchOption};
 ghost use Rattle.valuation.specs.declared.Value.TheVariants.{Unknown};
 ghost use Rattle.valuation.specs.Circuit.{Ascending, nothing, reads, settings_from, node_values};

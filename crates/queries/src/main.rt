@@ -1,6 +1,8 @@
 // Compares searchers with stored answers to single queries. A line of standard input has, with spaces between: a name, the searcher, V, the root literal,
 // the node of the first free variable, the allowance, the reply (move, nomove or spent), the need, the range after it, the marked nodes, the forced nodes
 // (false with a minus), a play that they come from, and the gates. Values are 0 unset, 1 false, 2 true; - is an empty list.
+#![tactic(auto)]
+
 use anyhow::anyhow;
 use circuit::{Gate, Literal};
 use counter::Counter;

@@ -1,4 +1,6 @@
 // A question: a prenex quantified Boolean formula over and-gates, and the loader that reads one from bytes.
+#![tactic(auto)]
+
 mod frame;
 mod judging;
 mod loading;

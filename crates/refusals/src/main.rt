@@ -1,5 +1,7 @@
 // Compares the loader with stored outcomes. A line of standard input has a name, the table's size, the refusal's number (0: accepted) and the
 // bytes in hexadecimal.
+#![tactic(auto)]
+
 use anyhow::anyhow;
 use circuit::{Gate, Literal};
 use question::load;

@@ -1,4 +1,6 @@
 // What the calls on a bench do, as definitions on plain numbers and lists, and what holds of every run of them: theorems only.
+#![tactic(auto)]
+
 ghost use Rattle.std.specs.Prelude.{◌≡◌};
 ghost use Rattle.runs.specs.Refusals.{number_of};
 ghost use Rattle.runs.specs.Law.{FairRuns, AgreeingRuns, RunLaw};

@@ -1,4 +1,6 @@
 // Searchers: what answers whether some setting of a block leaves a root not false, and what every searcher keeps.
+#![tactic(auto)]
+
 ghost use Rattle.std.specs.Prelude.{◌≡◌, ◌-◌, ◌<◌, false, length, replicate};
 ghost use Rattle.valuation.specs.declared.Value.TheVariants.{Unknown};
 ghost use Rattle.search.specs.Queries.{Query, Sound};

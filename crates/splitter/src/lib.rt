@@ -1,5 +1,7 @@
 // The splitter: a searcher that sets the range's variables one after the other, first false, then true, and leaves a branch as soon as the
 // root is known there.
+#![tactic(auto)]
+
 ghost use Rattle.std.specs.Prelude.{◌≡◌, length};
 
 use blaming::Blame;

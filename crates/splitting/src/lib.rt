@@ -1,4 +1,6 @@
 // What the splitter answers: its tree, the cores of refuted branches, and the laws of them.
+#![tactic(auto)]
+
 ghost use Rattle.splitting.specs.Claims.{SplitterKeeps, BlameKeeps, EverySettingCovered, NoMoveRefutes};
 
 pub fn splitter_keeps() -> u8

@@ -1,4 +1,6 @@
 // The start, turns and settlements on a circuit are steps of the abstract run.
+#![tactic(auto)]
+
 ghost use Rattle.steps.specs.Steps.{PlaysSet, StartsRight, StartsRooted, QueryRight, MoveRight, LossRight, SettlementSteps, LostRight};
 ghost use Rattle.steps.specs.Worked.{WorkedLoss};
 

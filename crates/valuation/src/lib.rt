@@ -1,4 +1,6 @@
 // What the values of a circuit's nodes are, and the laws of them that every later proof uses.
+#![tactic(auto)]
+
 ghost use Rattle.valuation.specs.Claims.{EquationsHold, EquationsDetermine, OneList, SameInputs};
 ghost use Rattle.valuation.specs.Claims.{MoreKnown, UnforcedMore, SettingsMore, CoreMore, AllKnown};
 ghost use Rattle.valuation.specs.Claims.{AppendingKeeps, StoppingKeeps, SweepExact, ReachExact};

@@ -27,8 +27,8 @@ sound l gs play fit =
     level_sound l.variables (pairs (gs)) l.root.code play l.below l.free fit.few_variables (omega (arith, length-map (gs) pair, fit.few_gates)) fit.ascending
     (omega (arith, length-map (gs) pair, fit.rooted)) fit.inside fit.few_free fit.unset
 
-pub force-cut-requires : goal.force-cut-requires
-force-cut-requires g c =
+pub force_cut-requires : goal.force_cut-requires
+force_cut-requires g c =
     let l = c.args.level in
     let gs = c.args.gates.now in
     record {
@@ -45,11 +45,11 @@ query-reply-requires g c =
     let gs = c.args.gates.now in
     let play = c.args.play.now in
     let n = part l gs play c.requires.fit in
-    let wide : length c.force-cut.new.forced ≡ 1 + l.variables + length (gs) = omega (arith, ap length c.requires.forced, length-replicate (1 + l.variables + length (gs)) Unknown) in
+    let wide : length c.force_cut.new.forced ≡ 1 + l.variables + length (gs) = omega (arith, ap length c.requires.forced, length-replicate (1 + l.variables + length (gs)) Unknown) in
     record {
-      sound = subst Sound (sym (put_is l gs play c.force-cut.new.forced _ c.force-cut.ensures.forced n)) (sound l gs play c.requires.fit);
+      sound = subst Sound (sym (put_is l gs play c.force_cut.new.forced _ c.force_cut.ensures.forced n)) (sound l gs play c.requires.fit);
       unset = ap (λ (k : ℕ). take k (drop l.below play)) (let e : l.below + l.free - l.below ≡ l.free = omega arith in e) ∙ c.requires.fit.unset ∙ ap (λ k. replicate k Unknown) (sym n);
-      unmarked = c.force-cut.ensures.marks ∙ c.requires.marks ∙ ap (λ k. replicate k false) (sym wide);
+      unmarked = c.force_cut.ensures.marks ∙ c.requires.marks ∙ ap (λ k. replicate k false) (sym wide);
     }
 
 pub returns : goal.returns
@@ -59,13 +59,13 @@ returns g c =
     let play = c.args.play.now in
     let m = g.row.S-Searcher.meaning c.args.searcher.now in
     let n = part l gs play c.requires.fit in
-    let e = put_is l gs play c.force-cut.new.forced _ c.force-cut.ensures.forced n in
+    let e = put_is l gs play c.force_cut.new.forced _ c.force_cut.ensures.forced n in
     let s = sound l gs play c.requires.fit in
     let k = g.met.S.Searcher.keeps c.args.searcher.now in
     let a : Answer = m (asked_of l gs play) in
     let size = 1 + l.variables + length (gs) in
-    let wide : length c.force-cut.new.forced ≡ size = omega (arith, ap length c.requires.forced, length-replicate size Unknown) in
-    let long : length c.force-cut.new.values ≡ size = omega (arith, ap length c.requires.values, length-replicate size Unknown) in
+    let wide : length c.force_cut.new.forced ≡ size = omega (arith, ap length c.requires.forced, length-replicate size Unknown) in
+    let long : length c.force_cut.new.values ≡ size = omega (arith, ap length c.requires.values, length-replicate size Unknown) in
     record {
       same = c.query-reply.ensures.same;
       right = right_within l.allowance a (asked_of l gs play) (k.right (asked_of l gs play) s) (k.some (asked_of l gs play) s) (k.bounded (asked_of l gs play) s);

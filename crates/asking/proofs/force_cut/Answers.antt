@@ -7,8 +7,8 @@ use Rattle.circuit.specs.Gates.{pair, pairs}
 use Rattle.asking.proofs.Levels.{cut_is}
 use Rattle.asking.proofs.force_cut.Goals as goal
 
-pub mark-reached-requires : goal.mark-reached-requires
-mark-reached-requires c =
+pub mark_reached-requires : goal.mark_reached-requires
+mark_reached-requires c =
     let size = c.args.first + length c.args.gates.now in
     let long = ap length c.requires.marks ∙ length-replicate size false in
     record {
@@ -19,8 +19,8 @@ mark-reached-requires c =
       clear = λ n lt. ap (λ (ms : List Bool). get_or ms n false) c.requires.marks ∙ get_or-replicate size n false false lt;
     }
 
-pub force-marked-requires : goal.force-marked-requires
-force-marked-requires c =
+pub force_marked-requires : goal.force_marked-requires
+force_marked-requires c =
     let size = c.args.first + length c.args.gates.now in
     let long = ap length c.requires.marks ∙ length-replicate size false in
     let wide = ap length c.requires.forced ∙ length-replicate size Unknown in
@@ -31,10 +31,10 @@ returns c =
     let size = c.args.first + length c.args.gates.now in
     let gs = pairs c.args.gates.now in
     let long : length c.args.marks.now ≡ size = ap length c.requires.marks ∙ length-replicate size false in
-    let marks : c.mark-reached.new.marks ≡ reach c.args.first gs (reads c.work-out.new.values) (c.args.root.code / 2) =
-    c.mark-reached.ensures ∙ ap (λ (ms : List Bool). reach c.args.first gs (reads c.work-out.new.values) (c.args.root.code / 2) ++ ms) (drop_all size c.args.marks.now (omega (arith, long))) ∙ append-nil _ in
+    let marks : c.mark_reached.new.marks ≡ reach c.args.first gs (reads c.work_out.new.values) (c.args.root.code / 2) =
+    c.mark_reached.ensures ∙ ap (λ (ms : List Bool). reach c.args.first gs (reads c.work_out.new.values) (c.args.root.code / 2) ++ ms) (drop_all size c.args.marks.now (omega (arith, long))) ∙ append-nil _ in
     record {
-      forced = c.force-marked.ensures.forced ∙ cut_is c.args.first gs c.args.root.code c.args.play.now c.work-out.new.values c.mark-reached.new.marks (length c.mark-reached.new.marks)
-          c.work-out.ensures marks (omega (arith, long, length-map c.args.gates.now pair));
-      marks = c.force-marked.ensures.clear ∙ ap (λ n. replicate n false) (let e : length c.mark-reached.new.marks ≡ size = omega (arith, long) in e) ∙ sym c.requires.marks;
+      forced = c.force_marked.ensures.forced ∙ cut_is c.args.first gs c.args.root.code c.args.play.now c.work_out.new.values c.mark_reached.new.marks (length c.mark_reached.new.marks)
+          c.work_out.ensures marks (omega (arith, long, length-map c.args.gates.now pair));
+      marks = c.force_marked.ensures.clear ∙ ap (λ n. replicate n false) (let e : length c.mark_reached.new.marks ≡ size = omega (arith, long) in e) ∙ sym c.requires.marks;
     }

@@ -10,8 +10,8 @@ use Rattle.asking.proofs.Fronts.{front_zero, filled_front}
 use Rattle.asking.proofs.Settles.{answer_by, table_by}
 use Rattle.asking.proofs.settle_level.Goals as goal
 
-pub work-out-requires : goal.work-out-requires
-work-out-requires c =
+pub work_out-requires : goal.work_out-requires
+work_out-requires c =
     let used = c.args.used in
     let n = c.args.first + used in
     let old : pairs (take (used - 0) c.args.gates.now) ≡ take used (pairs c.args.gates.now) = ap (λ k. pairs (take k c.args.gates.now)) (let e : used - 0 ≡ used = omega arith in e) ∙ sym (take-map pair used c.args.gates.now) in
@@ -26,14 +26,14 @@ pub settle-settled-requires : goal.settle-settled-requires
 settle-settled-requires c =
     let n = c.args.first + c.args.used in
     let wide = length-take-le (n - 0) c.args.values.now (omega (arith, c.requires.values.long)) in
-    let vs = take_at c.work-out.new.values (drop (n - 0) c.args.values.now) (n - 0) (c.work-out.auto.values ∙ wide) in
+    let vs = take_at c.work_out.new.values (drop (n - 0) c.args.values.now) (n - 0) (c.work_out.auto.values ∙ wide) in
     record {
       used = c.requires.used;
       small = c.requires.small;
       ascending = c.requires.ascending;
       blank = c.requires.blank;
       core = c.requires.core;
-      values = omega (arith, ap length vs, c.work-out.auto.values, wide);
+      values = omega (arith, ap length vs, c.work_out.auto.values, wide);
       below = c.requires.below;
       played = c.requires.played;
       work = c.requires.copies.long;
@@ -47,14 +47,14 @@ returns c =
     let gs = pairs c.args.gates.now in
     let l = c.args.loss in
     let wide = length-take-le (n - 0) c.args.values.now (omega (arith, c.requires.values.long)) in
-    let long = c.work-out.auto.values ∙ wide in
+    let long = c.work_out.auto.values ∙ wide in
     let old : pairs (take (used - 0) c.args.gates.now) ≡ take used gs = ap (λ k. pairs (take k c.args.gates.now)) (let e : used - 0 ≡ used = omega arith in e) ∙ sym (take-map pair used c.args.gates.now) in
-    let vs = take_at c.work-out.new.values _ (n - 0) long ∙ c.work-out.ensures ∙ ap (λ (xs : List Pair). values_under c.args.first xs l.play.now) old in
+    let vs = take_at c.work_out.new.values _ (n - 0) long ∙ c.work_out.ensures ∙ ap (λ (xs : List Pair). values_under c.args.first xs l.play.now) old in
     let part = part_in l.bounds l.play.now in
     record {
       answer = c.settle-settled.ensures.answer ∙ ap (answer_by c.args.first gs used part l.core.now l.root.code) vs;
       table = c.settle-settled.ensures.table ∙ ap (table_by c.args.first gs used part l.core.now l.root.code) vs;
-      values = filled_front Unknown (n - 0) c.args.values.now c.work-out.new.values c.fill.new.self (record { long = omega (arith, c.requires.values.long); all = c.requires.values.all }) long
+      values = filled_front Unknown (n - 0) c.args.values.now c.work_out.new.values c.fill.new.self (record { long = omega (arith, c.requires.values.long); all = c.requires.values.all }) long
           (c.fill.ensures.after (λ y h. h));
       copies = c.settle-settled.ensures.work;
     }

@@ -13,8 +13,8 @@ pub returns : goal.returns
 returns c =
     let n = c.args.first + c.args.used in
     record {
-      answer = c.write-gates-outcome.ensures.answer;
-      table = c.write-gates-outcome.ensures.table;
-      work = filled_again none n (n - 0) c.args.copies.now c.write-gates-outcome.new.copies c.clear.new.copies (omega arith)
-          (c.write-gates-outcome.auto.copies ∙ length-take-le (n - 0) c.args.copies.now (omega arith)) c.requires.clear c.clear.ensures;
+      answer = c.write_gates-outcome.ensures.answer;
+      table = c.write_gates-outcome.ensures.table;
+      work = filled_again none n (n - 0) c.args.copies.now c.write_gates-outcome.new.copies c.clear.new.copies (omega arith)
+          (c.write_gates-outcome.auto.copies ∙ length-take-le (n - 0) c.args.copies.now (omega arith)) c.requires.clear c.clear.ensures;
     }

@@ -5,8 +5,8 @@ use Rattle.counter.proofs.first_in_group.Goals as goal
 
 pub returns-then-place-lt64 : goal.returns-then-place-lt64
 returns-then-place-lt64 c =
-    open_some (refutes (asked c.args.ask c.args.forced.now c.args.free)) c.args.group c.args.free c.open-cases.result c.open-cases.ensures c.lowest-one-place.result c.lowest-one-place.ensures c.if-place-lt64.true
+    open_some (refutes (asked c.args.ask c.args.forced.now c.args.free)) c.args.group c.args.free c.open_cases.result c.open_cases.ensures c.lowest_one-place.result c.lowest_one-place.ensures c.if-place-lt64.true
 
 pub returns-else-place-lt64 : goal.returns-else-place-lt64
 returns-else-place-lt64 c =
-    open_none (refutes (asked c.args.ask c.args.forced.now c.args.free)) c.args.group c.args.free c.open-cases.result c.open-cases.ensures c.lowest-one-place.result c.lowest-one-place.ensures c.if-place-lt64.false
+    open_none (refutes (asked c.args.ask c.args.forced.now c.args.free)) c.args.group c.args.free c.open_cases.result c.open_cases.ensures c.lowest_one-place.result c.lowest_one-place.ensures c.if-place-lt64.false

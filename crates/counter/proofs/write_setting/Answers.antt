@@ -8,7 +8,7 @@ use Rattle.counter.proofs.write_setting.Goals as goal
 
 pub loop-k-preserved : goal.loop-k-preserved
 loop-k-preserved c = λ i h.
-    ap (λ v. get_or (set c.loop-k.range c.loop-k.k v) i Unknown) c.value-in-case.ensures
+    ap (λ v. get_or (set c.loop-k.range c.loop-k.k v) i Unknown) c.value_in_case.ensures
     ∙ fill_by_more (λ k. of_bool (on c.args.case k)) c.loop-k.range c.loop-k.k Unknown (omega arith) c.loop-k.invariant i h
 
 pub returns : goal.returns

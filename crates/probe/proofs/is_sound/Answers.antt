@@ -20,7 +20,7 @@ returns c = λ yes'.
       play = settings_from 1 c.args.play.now;
       witness = record {
         constant = refl;
-        unset = c.leaves-unset.ensures c.if-not-leaves-unset.false;
-        gives = λ n lt known. c.comes-from.ensures yes' n (omega arith) known;
+        unset = c.leaves_unset.ensures c.if-not-leaves_unset.false;
+        gives = λ n lt known. c.comes_from.ensures yes' n (omega arith) known;
       };
     }

@@ -16,13 +16,13 @@ use Rattle.bench.proofs.Owned.{ready, owned, few_blocks}
 use Rattle.bench.proofs.Turns.{Accepted, moved, lost, spent_is, turned_is, reply_is, right_is}
 use Rattle.bench.proofs.Bench.turn.Goals as goal
 
-pub ask-tables-reply-requires : goal.ask-tables-reply-requires
-ask-tables-reply-requires g c =
+pub ask_tables-reply-requires : goal.ask_tables-reply-requires
+ask_tables-reply-requires g c =
     let b = c.args.self.now in
     let t = c.args.gates.now in
     let l = c.args.lists.now in
     let mine : own (model b t l) ≡ true = sym c.owns.ensures ∙ c.if-not-owns.false in
-    let present : ticket_present b.desk c.args.ticket.stub ≡ true = sym c.has-ticket.ensures ∙ c.if-not-has-ticket.false in
+    let present : ticket_present b.desk c.args.ticket.stub ≡ true = sym c.has_ticket.ensures ∙ c.if-not-has_ticket.false in
     subst (λ (k : Level). Ready k t l.play l.values l.forced l.marks) (sym c.level.ensures) (ready b.frame b.desk t l mine (playing_since b.desk c.args.ticket.stub present) b.rooted)
 
 pub overflow-add-desk : goal.overflow-add-desk
@@ -31,14 +31,14 @@ overflow-add-desk g c = omega (arith, c.args.self.now.deep, few_blocks c.args.se
 pub paid-desk-requires : goal.paid-desk-requires
 paid-desk-requires g c = ?
 
-pub invariant-of-self-in-Move : goal.invariant-of-self-in-Move
-invariant-of-self-in-Move g c = ?
+pub invariant_of-self-in-Move : goal.invariant_of-self-in-Move
+invariant_of-self-in-Move g c = ?
 
 pub paid-desk-requires-in-NoMove : goal.paid-desk-requires-in-NoMove
 paid-desk-requires-in-NoMove g c = ?
 
-pub invariant-of-self-in-NoMove : goal.invariant-of-self-in-NoMove
-invariant-of-self-in-NoMove g c = ?
+pub invariant_of-self-in-NoMove : goal.invariant_of-self-in-NoMove
+invariant_of-self-in-NoMove g c = ?
 
 pub returns-in-Spent : goal.returns-in-Spent
 returns-in-Spent g c = ?

@@ -16,12 +16,12 @@ walk-requires g c = record {
 pub returns : goal.returns
 returns g c =
     let gates = c.args.gates.now in
-    let n = c.gates-up-to-count.result in
-    let e = c.gates-up-to-count.ensures in
+    let n = c.gates_up_to-count.result in
+    let e = c.gates_up_to-count.ensures in
     let room : c.args.first ≤ length c.args.values.now = omega arith in
     record {
       value = λ k h. literal_walked gates c.args.first c.args.literal.code n e c.requires.inside (λ v. g.K.Kind.at v k) (reads c.args.forced.now) c.args.values.now c.walk.new.values room
-          (c.walk.ensures.walked k h) (g.K.Kind.at c.literal-value.result k) (c.literal-value.ensures k h);
+          (c.walk.ensures.walked k h) (g.K.Kind.at c.literal_value.result k) (c.literal_value.ensures k h);
       walked = λ k h. walked_up_to gates c.args.first c.args.literal.code n e c.requires.inside (λ v. g.K.Kind.at v k) (reads c.args.forced.now) c.args.values.now c.walk.new.values room
           (c.walk.ensures.walked k h);
       beyond = beyond_walked gates c.args.first c.args.literal.code n e c.requires.inside c.args.values.now c.walk.new.values c.walk.ensures.beyond;

@@ -9,7 +9,7 @@ pub loop-node-preserved : goal.loop-node-preserved
 loop-node-preserved g c = (
   length-set _ _ _ ∙ c.loop-node.invariant.0,
   λ k h. filled_more (λ v. g.K.Kind.at v k) (λ n. or_else (reads c.args.forced.now n) (settings_from c.args.start c.args.settings.now n)) c.loop-node.inputs c.loop-node.node c.constant.result
-      (omega arith) (c.constant.ensures k h ∙ c.input-value.ensures) (c.loop-node.invariant.1 k h),
+      (omega arith) (c.constant.ensures k h ∙ c.input_value.ensures) (c.loop-node.invariant.1 k h),
 )
 
 pub returns : goal.returns

@@ -2,9 +2,9 @@ use Rattle.std.proofs.Common.{false, rules}
 use Rattle.std.proofs.lemmas.List.{get_or-replicate}
 use Rattle.circuit_tests.proofs.tests.reaching_holds.Goals as goal
 
-pub mark-reached-requires : goal.mark-reached-requires
-mark-reached-requires c = record {
-  ascending = c.make-gates.ensures;
+pub mark_reached-requires : goal.mark_reached-requires
+mark_reached-requires c = record {
+  ascending = c.make_gates.ensures;
   covered = search rules;
   inside = search rules;
   room = search rules;

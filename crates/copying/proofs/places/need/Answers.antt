@@ -4,4 +4,4 @@ use Rattle.copying.proofs.Held.{shown_put}
 use Rattle.copying.proofs.places.need.Goals as goal
 
 pub returns : goal.returns
-returns c = ap shown c.put-copy.ensures ∙ shown_put c.args.copies.now c.args.place.code c.plain.result c.requires
+returns c = ap shown c.put_copy.ensures ∙ shown_put c.args.copies.now c.args.place.code c.plain.result c.requires

@@ -7,7 +7,7 @@ use Rattle.copying.proofs.places.need_core.Goals.{in-Some, in-default}
 
 pub loop-node-preserved : goal.loop-node-preserved
 loop-node-preserved c =
-    elim c.match-core-literal.branch [
+    elim c.match-core_literal.branch [
       | in-Some w ↦ ap shown w.copies-is ∙ w.need.ensures ∙ ap₂ (λ ms l. set ms l true) c.loop-node.invariant w.flipped.ensures
           ∙ core_more (λ n. get_or c.args.core.now n false) (reads c.args.values.now) c.loop-node.node (c.loop-node.node + 1) (w.in-Some.literal.code ∷ []) (shown c.args.copies.now) (omega arith) w.in-Some.ensures
       | in-default w ↦ ap shown w.copies-is ∙ c.loop-node.invariant

@@ -10,41 +10,41 @@ use Rattle.copying.proofs.places.need_inputs.Goals as goal
 
 pub need-requires : goal.need-requires
 need-requires c =
-    let x : c.flipped-by.result.code / 2 < c.args.first + length c.args.gates.now =
-    left_low c.args.first c.args.gates.now _ c.place-at-place.result.code (c.node-then-is-some.result - c.args.first) (omega arith) (omega arith) (omega arith) c.requires.ascending
-    c.left.result.code c.flipped-by.result.code c.left.ensures c.flipped-by.ensures in
+    let x : c.flipped_by.result.code / 2 < c.args.first + length c.args.gates.now =
+    left_low c.args.first c.args.gates.now _ c.place_at-place.result.code (c.node-then-is_some.result - c.args.first) (omega arith) (omega arith) (omega arith) c.requires.ascending
+    c.left.result.code c.flipped_by.result.code c.left.ensures c.flipped_by.ensures in
     omega arith
 
-pub need-requires-then-is-some : goal.need-requires-then-is-some
-need-requires-then-is-some c =
-    let x : c.flipped-by-then-is-some.result.code / 2 < c.args.first + length c.args.gates.now =
-    right_low c.args.first c.args.gates.now _ c.place-at-place.result.code (c.node-then-is-some.result - c.args.first) (omega arith) (omega arith) (omega arith) c.requires.ascending
-    c.right.result.code c.flipped-by-then-is-some.result.code c.right.ensures c.flipped-by-then-is-some.ensures in
+pub need-requires-then-is_some : goal.need-requires-then-is_some
+need-requires-then-is_some c =
+    let x : c.flipped_by-then-is_some.result.code / 2 < c.args.first + length c.args.gates.now =
+    right_low c.args.first c.args.gates.now _ c.place_at-place.result.code (c.node-then-is_some.result - c.args.first) (omega arith) (omega arith) (omega arith) c.requires.ascending
+    c.right.result.code c.flipped_by-then-is_some.result.code c.right.ensures c.flipped_by-then-is_some.ensures in
     omega arith
 
-pub loop-number-preserved-then-is-some : goal.loop-number-preserved-then-is-some
-loop-number-preserved-then-is-some c =
+pub loop-number-preserved-then-is_some : goal.loop-number-preserved-then-is_some
+loop-number-preserved-then-is_some c =
     let cs = c.loop-number.copies in
-    let i = c.place-at-place.result.code in
+    let i = c.place_at-place.result.code in
     let s : c.loop-number.number ≡ suc i = omega arith in
-    let t = sym (shown_read cs i i c.node.result (omega arith) refl c.node.ensures) ∙ ap is_some (sym c.at.ensures) ∙ sym c.is-some.ensures ∙ c.if-is-some.true in (
+    let t = sym (shown_read cs i i c.node.result (omega arith) refl c.node.ensures) ∙ ap is_some (sym c.at.ensures) ∙ sym c.is_some.ensures ∙ c.if-is_some.true in (
       omega arith,
-      ap₂ (sweep (needs c.args.first (pairs c.args.gates.now))) (sym c.place-at-place.ensures)
-          (c.need-then-is-some.ensures ∙ ap (λ ms. set ms c.flipped-by-then-is-some.result.code true) c.need.ensures)
-          ∙ both_needed c.args.first c.args.gates.now _ i (c.node-then-is-some.result - c.args.first) (omega arith) (omega arith) (omega arith) c.requires.ascending
-          c.loop-number.number (shown cs) c.left.result.code c.right.result.code c.flipped-by.result.code c.flipped-by-then-is-some.result.code s
-          c.left.ensures c.flipped-by.ensures c.right.ensures c.flipped-by-then-is-some.ensures t
+      ap₂ (sweep (needs c.args.first (pairs c.args.gates.now))) (sym c.place_at-place.ensures)
+          (c.need-then-is_some.ensures ∙ ap (λ ms. set ms c.flipped_by-then-is_some.result.code true) c.need.ensures)
+          ∙ both_needed c.args.first c.args.gates.now _ i (c.node-then-is_some.result - c.args.first) (omega arith) (omega arith) (omega arith) c.requires.ascending
+          c.loop-number.number (shown cs) c.left.result.code c.right.result.code c.flipped_by.result.code c.flipped_by-then-is_some.result.code s
+          c.left.ensures c.flipped_by.ensures c.right.ensures c.flipped_by-then-is_some.ensures t
           ∙ c.loop-number.invariant.1,
     )
 
 pub loop-number-preserved : goal.loop-number-preserved
 loop-number-preserved c =
     let cs = c.loop-number.copies in
-    let i = c.place-at-place.result.code in
+    let i = c.place_at-place.result.code in
     let s : c.loop-number.number ≡ suc i = omega arith in
-    let t = sym (shown_read cs i i c.node.result (omega arith) refl c.node.ensures) ∙ ap is_some (sym c.at.ensures) ∙ sym c.is-some.ensures ∙ c.if-is-some.false in (
+    let t = sym (shown_read cs i i c.node.result (omega arith) refl c.node.ensures) ∙ ap is_some (sym c.at.ensures) ∙ sym c.is_some.ensures ∙ c.if-is_some.false in (
       omega arith,
-      ap (λ n. sweep (needs c.args.first (pairs c.args.gates.now)) n (shown cs)) (sym c.place-at-place.ensures)
+      ap (λ n. sweep (needs c.args.first (pairs c.args.gates.now)) n (shown cs)) (sym c.place_at-place.ensures)
           ∙ sweep_past c.args.first (pairs c.args.gates.now) i c.loop-number.number (shown cs) s t ∙ c.loop-number.invariant.1,
     )
 

@@ -21,7 +21,7 @@ returns-in-Some c =
       same = refl;
       put_back = refl;
       reply = s.reply;
-      range = c.write-setting.ensures ∙ ap (λ n. map of_bool (setting n c.in-Some.case)) c.loop-group.auto.range ∙ s.range;
+      range = c.write_setting.ensures ∙ ap (λ n. map of_bool (setting n c.in-Some.case)) c.loop-group.auto.range ∙ s.range;
       marks = c.requires.unmarked ∙ s.marks;
     }
 
@@ -34,4 +34,4 @@ pub returns : goal.returns
 returns c =
     let q : Query = asked c.args.ask c.args.forced.now (length c.args.range.now) in
     let s = counts_loses q c.args.ask.allowance (length q.forced) c.loop-group.group c.loop-group.invariant.1 c.loop-group.invariant.0 (omega arith) in
-    record { same = refl; put_back = refl; reply = ap NoMove c.group-count-groups.ensures ∙ s.reply; range = c.loop-group.invariant.2 ∙ c.requires.unset ∙ s.range; marks = c.mark-core.ensures ∙ s.marks }
+    record { same = refl; put_back = refl; reply = ap NoMove c.group_count-groups.ensures ∙ s.reply; range = c.loop-group.invariant.2 ∙ c.requires.unset ∙ s.range; marks = c.mark_core.ensures ∙ s.marks }

@@ -8,7 +8,7 @@ use Rattle.counter.proofs.inputs.input_in_group.Goals as goal
 
 pub returns-then-node-start-2 : goal.returns-then-node-start-2
 returns-then-node-start-2 c = λ i h.
-    c.new.ensures i ∙ ap₂ (λ k b. cond k (of_bool b) Unknown) (on_all i h) (c.true-cases.ensures i h)
+    c.new.ensures i ∙ ap₂ (λ k b. cond k (of_bool b) Unknown) (on_all i h) (c.true_cases.ensures i h)
     ∙ sym (forced_unknown c.args.forced _ c.in-Unknown.is ∙ set_inside c.args.start c.args.free (64 * c.args.group + i) c.args.node c.if-node-eq0.false c.if-node-start.false c.if-node-start-2.true)
 
 pub returns-else-node-start-2 : goal.returns-else-node-start-2

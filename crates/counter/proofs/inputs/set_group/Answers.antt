@@ -10,7 +10,7 @@ use Rattle.counter.proofs.inputs.set_group.Goals as goal
 pub loop-node-preserved : goal.loop-node-preserved
 loop-node-preserved c = λ i h.
     filled_more (λ (v : Wide). case_value v.trues v.falses i) (λ n. or_else (reads c.args.forced.now n) (settings_from c.args.start (map of_bool (setting c.args.free (64 * c.args.group + i))) n))
-    c.loop-node.inputs c.loop-node.node c.input-in-group.result (omega arith) (c.input-in-group.ensures i h) (c.loop-node.invariant i h)
+    c.loop-node.inputs c.loop-node.node c.input_in_group.result (omega arith) (c.input_in_group.ensures i h) (c.loop-node.invariant i h)
 
 pub returns : goal.returns
 returns c = λ i h.

@@ -50,8 +50,8 @@ returns-in-default g c =
       marks = both.marks ∙ ap (λ a. marks_after a c.args.ask.allowance (length q.forced)) all;
     }
 
-pub take-over-requires : goal.take-over-requires
-take-over-requires g c = omega (arith, ap length c.requires.unmarked, length-replicate (length c.args.forced.now) false)
+pub take_over-requires : goal.take_over-requires
+take_over-requires g c = omega (arith, ap length c.requires.unmarked, length-replicate (length c.args.forced.now) false)
 
 pub half-second-requires : goal.half-second-requires
 half-second-requires g c =
@@ -63,11 +63,11 @@ half-second-requires g c =
       sound = subst Sound (sym (ap₂ (λ F n. asked c.args.ask F n) s.put_back long)) c.requires.sound;
       some = omega arith;
       unset = s.range ∙ lost_unset (half m q false) (c.args.ask.allowance - 1) _ q.free s.reply ∙ ap (λ n. replicate n Unknown) (sym long);
-      unmarked = c.take-over.ensures.clear ∙ ap (λ n. replicate n false) (let e : length c.half-first.new.marks ≡ length c.half-first.new.forced = omega (arith, ap length c.requires.unmarked, length-replicate (length c.args.forced.now) false) in e);
+      unmarked = c.take_over.ensures.clear ∙ ap (λ n. replicate n false) (let e : length c.half-first.new.marks ≡ length c.half-first.new.forced = omega (arith, ap length c.requires.unmarked, length-replicate (length c.args.forced.now) false) in e);
     }
 
-pub join-to-requires : goal.join-to-requires
-join-to-requires g c =
+pub join_to-requires : goal.join_to-requires
+join_to-requires g c =
     let e = length-replicate (length c.args.forced.now) false in
     record {
       few = omega (arith, ap length c.requires.unmarked, e);
@@ -88,7 +88,7 @@ returns g c =
     let same_length : length c.half-second.new.marks ≡ length c.half-first.new.marks = omega arith in
     let lost : (k : ℕ) → c.half-second.result ≡ NoMove k → c.match-second.marks ≡ joined q.start c.half-first.new.marks c.half-second.new.marks =
     λ k e. elim c.match-second.branch [
-      | in-NoMove-second w ↦ w.marks-is ∙ w.join-to.ensures ∙ joined_kept q.start _ _ _ c.half-first.new.marks c.half-second.new.marks same_length c.take-over.ensures.kept
+      | in-NoMove-second w ↦ w.marks-is ∙ w.join_to.ensures ∙ joined_kept q.start _ _ _ c.half-first.new.marks c.half-second.new.marks same_length c.take_over.ensures.kept
       | in-default-second w ↦ absurd (w.in-default-second.not-NoMove k e)
     ] in
     let other : ((k : ℕ) → c.half-second.result ≡ NoMove k → ⊥) → c.match-second.marks ≡ c.half-second.new.marks =

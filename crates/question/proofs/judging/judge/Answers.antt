@@ -9,7 +9,7 @@ loop-block-init c = subst (λ bs. SoFar c.args.bytes.now bs 0 0) (sym c.new-pref
 
 pub returns-in-err-block : goal.returns-in-err-block
 returns-in-err-block c =
-    let p = err_from_is_err_and c.from-residual.result c.from-residual.ensures.1 in
+    let p = err_from_is_err_and c.from_residual.result c.from_residual.ensures.1 in
     let l = c.loop-block in
     rw (p.1, p.2) (stops c.args.bytes.now (blocks_of l.prefix) l.gates l.at l.invariant c.next.result c.next.ensures.value c.next.ensures.front c.in-err-block.field-0.0 c.in-err-block.was)
 

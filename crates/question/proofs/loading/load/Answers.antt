@@ -43,8 +43,8 @@ fill-requires c =
     let bytes = c.args.bytes.now in
     simp (length-take, length-drop) (omega (arith, bytes_long bytes c.in-Ok.outline c.in-Ok.ensures, ap length c.blocks-2.ensures))
 
-pub invariant-of-result : goal.invariant-of-result
-invariant-of-result c =
+pub invariant_of-result : goal.invariant_of-result
+invariant_of-result c =
     let o = c.in-Ok.outline in
     let m = made c.args.bytes.now o c.in-Ok.ensures c.args.table c.fill.new.table (omega arith) (ap (unfit o.gates) (sym c.len.ensures) ∙ sym c.unfit.ensures ∙ c.if-unfit.false)
     (7 * length c.blocks-2.result.now) (ap (λ (bs : List Block). 7 * length bs) c.blocks-2.ensures) c.fill.ensures in

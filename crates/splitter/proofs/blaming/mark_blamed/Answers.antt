@@ -34,8 +34,8 @@ loop-done-init c =
     ∙ ap (λ n. cond (get_or (replicate (length c.args.seen.now) false) n false) c.args.order.now (set c.args.order.now 0 n)) c.node.ensures)
     c.note-count.ensures.counted)
 
-pub pass-on-count-requires : goal.pass-on-count-requires
-pass-on-count-requires c =
+pub pass_on-count-requires : goal.pass_on-count-requires
+pass_on-count-requires c =
     let node = get_or c.loop-done.order c.loop-done.done 0 in
     let k : node - (1 + c.args.ask.variables) < length c.args.ask.gates.now = omega (arith, c.loop-done.invariant.1 c.loop-done-test.true) in
     let r = reads_below c.args.ask.gates.now (1 + c.args.ask.variables) (node - (1 + c.args.ask.variables)) (length c.args.values.now) _ c.requires.ascending k (omega arith) in
@@ -67,9 +67,9 @@ loop-done-preserved c =
           let r = reads_below gates first (node - first) (length c.loop-done.seen) empty c.requires.ascending k (omega arith) in
           blaming_same first gs F v root w.marks-is w.seen-is w.order-is w.count_is
           (blaming_gate first gs F v root c.args.marks.now c.loop-done.marks c.loop-done.seen order c.loop-done.count done b node refl less room (node - first) (omega (arith, w.if-node-first.true)) (same w.if-ne.ensures)
-          (omega (arith, ap (λ q. q.left) g, r.0), omega (arith, ap (λ q. q.right) g, r.1)) w.pass-on-count.new.seen w.pass-on-count.new.order w.pass-on-count.result
-          (w.pass-on-count.ensures.seen ∙ ap (λ q. marked (passes (v node) (lit v q.left) q) c.loop-done.seen) (sym g))
-          (w.pass-on-count.ensures.order ∙ ap (λ q. noted (passes (v node) (lit v q.left) q) c.loop-done.seen order) (sym g)) w.pass-on-count.ensures.counted)
+          (omega (arith, ap (λ q. q.left) g, r.0), omega (arith, ap (λ q. q.right) g, r.1)) w.pass_on-count.new.seen w.pass_on-count.new.order w.pass_on-count.result
+          (w.pass_on-count.ensures.seen ∙ ap (λ q. marked (passes (v node) (lit v q.left) q) c.loop-done.seen) (sym g))
+          (w.pass_on-count.ensures.order ∙ ap (λ q. noted (passes (v node) (lit v q.left) q) c.loop-done.seen order) (sym g)) w.pass_on-count.ensures.counted)
       | else-ne+else-node-first w ↦ blaming_same first gs F v root w.marks-is w.seen-is w.order-is w.count_is
           (blaming_input first gs F v root c.args.marks.now c.loop-done.marks c.loop-done.seen order c.loop-done.count done b node refl less room (same w.if-ne.ensures) w.if-node-first.false)
     ])

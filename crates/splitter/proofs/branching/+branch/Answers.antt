@@ -22,8 +22,8 @@ returns-then-ask-eq0 t c =
       inputs = λ n r. refl {a = take (1 + c.args.ask.variables) c.args.values.now};
     }
 
-pub root-value-root-requires : goal.root-value-root-requires
-root-value-root-requires t c =
+pub root_value-root-requires : goal.root_value-root-requires
+root_value-root-requires t c =
     let p = length_pairs c.args.ask.gates.now in
     let covered = c.requires.sound.covered in
     let few = c.requires.sound.few_variables in
@@ -36,15 +36,15 @@ mark-requires t c =
     let covered = c.requires.sound.covered in
     let few = c.requires.sound.few_variables in
     let few_gates = c.requires.sound.few_gates in
-    let long = c.root-value-root.auto.values in
+    let long = c.root_value-root.auto.values in
     record { ascending = c.requires.sound.ascending; inside = omega (arith, c.requires.sound.rooted); covered = omega arith; markable = c.requires.markable; valued = omega arith; room = omega arith }
 
 pub returns-then-eq : goal.returns-then-eq
 returns-then-eq t c =
     let q : Query = asked c.args.ask c.args.forced.now (length c.args.range.now) in
     let s = settings_at c.args.ask.start (length c.args.range.now - c.args.unset) c.args.values.now in
-    let w = c.root-value-root.ensures in
-    let e = ended_lost q c.requires.sound c.args.unset s c.args.ask.allowance c.args.marks.now (omega arith) c.args.values.now c.root-value-root.new.values c.root-value-root.result
+    let w = c.root_value-root.ensures in
+    let e = ended_lost q c.requires.sound c.args.unset s c.args.ask.allowance c.args.marks.now (omega arith) c.args.values.now c.root_value-root.new.values c.root_value-root.result
     c.requires.stands w.value w.walked w.inputs c.if-eq.ensures c.mark.new.marks c.mark.ensures in
     record {
       reply = e.reply;
@@ -58,16 +58,16 @@ returns-then-eq-2 t c =
     let q : Query = asked c.args.ask c.args.forced.now (length c.args.range.now) in
     let free = length c.args.range.now in
     let s = settings_at c.args.ask.start (free - c.args.unset) c.args.values.now in
-    let w = c.root-value-root.ensures in
+    let w = c.root_value-root.ensures in
     let long : length s ≡ free - c.args.unset = length_settings q c.requires.sound s (free - c.args.unset) c.args.values.now (omega arith) c.requires.stands in
-    let e = ended_moved q c.requires.sound c.args.unset s c.args.ask.allowance c.args.marks.now (omega arith) c.args.values.now c.root-value-root.new.values c.root-value-root.result
+    let e = ended_moved q c.requires.sound c.args.unset s c.args.ask.allowance c.args.marks.now (omega arith) c.args.values.now c.root_value-root.new.values c.root_value-root.result
     c.requires.stands w.value w.walked w.inputs
     (elim c.then-eq-2.branch [
       | then-eq-2-via-then-eq-2 x ↦ inl x.if-eq-2.ensures
-      | then-eq-2-via-else-eq-2+then-unset-eq0 x ↦ inr (unknown_left c.root-value-root.result c.if-eq.ensures x.if-eq-2.ensures, x.if-unset-eq0.true)
+      | then-eq-2-via-else-eq-2+then-unset-eq0 x ↦ inr (unknown_left c.root_value-root.result c.if-eq.ensures x.if-eq-2.ensures, x.if-unset-eq0.true)
     ])
-    c.write-setting.new.range (omega arith)
-    (c.write-setting.ensures ∙ ap (λ n. map settled (take n (drop c.args.ask.start c.root-value-root.new.values))) (let e : c.args.ask.start + free - c.args.ask.start ≡ free = omega arith in e)) in
+    c.write_setting.new.range (omega arith)
+    (c.write_setting.ensures ∙ ap (λ n. map settled (take n (drop c.args.ask.start c.root_value-root.new.values))) (let e : c.args.ask.start + free - c.args.ask.start ≡ free = omega arith in e)) in
     record {
       reply = e.reply;
       range = e.range;
@@ -82,13 +82,13 @@ branch-low-requires t c =
     let free = length c.args.range.now in
     let k = c.args.unset in
     let before = c.args.values.now in
-    let values = c.root-value-root.new.values in
+    let values = c.root_value-root.new.values in
     let old = c.args.marks.now in
-    let r = c.root-value-root.ensures in
-    let stands = first_asked ask forced free k before values ask.allowance old c.root-value-root.result
+    let r = c.root_value-root.ensures in
+    let stands = first_asked ask forced free k before values ask.allowance old c.root_value-root.result
     c.requires.sound c.requires.stands r.value r.inputs c.if-eq.ensures c.if-eq-2.ensures c.requires.fits c.if-unset-eq0.false c.if-ask-eq0.false c.requires.markable in (
       let m : k ≡ t = c.decreases in omega (arith, c.if-unset-eq0.false),
-      (c.requires.sound, (stands, (omega arith, (simp length-set (c.root-value-root.auto.values ∙ c.requires.valued), (c.requires.unset, c.requires.markable))))),
+      (c.requires.sound, (stands, (omega arith, (simp length-set (c.root_value-root.auto.values ∙ c.requires.valued), (c.requires.unset, c.requires.markable))))),
     )
 
 pub returns-in-default-low : goal.returns-in-default-low
@@ -98,10 +98,10 @@ returns-in-default-low t c =
     let free = length c.args.range.now in
     let k = c.args.unset in
     let before = c.args.values.now in
-    let values = c.root-value-root.new.values in
+    let values = c.root_value-root.new.values in
     let old = c.args.marks.now in
-    let r = c.root-value-root.ensures in
-    let e = node_first ask forced free k before values ask.allowance old c.root-value-root.result
+    let r = c.root_value-root.ensures in
+    let e = node_first ask forced free k before values ask.allowance old c.root_value-root.result
     c.requires.sound c.requires.stands r.value r.inputs c.if-eq.ensures c.if-eq-2.ensures c.requires.fits c.if-unset-eq0.false c.if-ask-eq0.false c.requires.markable
     c.branch-low.result c.branch-low.new.range c.branch-low.new.marks c.branch-low.new.values
     c.branch-low.ensures.reply c.in-default-low.not-NoMove c.branch-low.ensures.range c.later.result c.later.ensures in
@@ -119,19 +119,19 @@ branch-high-requires t c =
     let free = length c.args.range.now in
     let k = c.args.unset in
     let before = c.args.values.now in
-    let values = c.root-value-root.new.values in
+    let values = c.root_value-root.new.values in
     let old = c.args.marks.now in
-    let r = c.root-value-root.ensures in
+    let r = c.root_value-root.ensures in
     let m = c.in-NoMove-low.spent in
     let low = c.in-NoMove-low.ensures in
     let middle = c.branch-low.new.marks in
     let last = c.branch-low.new.values in
     let room = length c.branch-low.new.range in
     let whole : room ≡ free = c.branch-low.auto.range in
-    let stands = second_asked ask forced free k before values ask.allowance old c.root-value-root.result
+    let stands = second_asked ask forced free k before values ask.allowance old c.root_value-root.result
     c.requires.sound c.requires.stands r.value r.inputs c.if-eq.ensures c.if-eq-2.ensures c.requires.fits c.if-unset-eq0.false c.if-ask-eq0.false c.requires.markable
     m middle last low.reply (low.marks m refl) (low.inputs m refl) room whole in
-    let unset = second_unset ask forced free k before values ask.allowance old c.root-value-root.result
+    let unset = second_unset ask forced free k before values ask.allowance old c.root_value-root.result
     c.requires.sound c.requires.stands r.value r.inputs c.if-eq.ensures c.if-eq-2.ensures c.requires.fits c.if-unset-eq0.false c.if-ask-eq0.false c.requires.markable
     m middle last low.reply (low.marks m refl) (low.inputs m refl) room whole in (
       let z : k ≡ t = c.decreases in omega (arith, c.if-unset-eq0.false),
@@ -142,7 +142,7 @@ branch-high-requires t c =
           (
             omega arith,
             (
-              simp length-set (c.branch-low.auto.values ∙ simp length-set (c.root-value-root.auto.values ∙ c.requires.valued)),
+              simp length-set (c.branch-low.auto.values ∙ simp length-set (c.root_value-root.auto.values ∙ c.requires.valued)),
               (low.range ∙ unset, c.branch-low.auto.marks ∙ c.requires.markable),
             ),
           ),
@@ -157,9 +157,9 @@ returns t c =
     let free = length c.args.range.now in
     let k = c.args.unset in
     let before = c.args.values.now in
-    let values = c.root-value-root.new.values in
+    let values = c.root_value-root.new.values in
     let old = c.args.marks.now in
-    let r = c.root-value-root.ensures in
+    let r = c.root_value-root.ensures in
     let m = c.in-NoMove-low.spent in
     let low = c.in-NoMove-low.ensures in
     let middle = c.branch-low.new.marks in
@@ -167,7 +167,7 @@ returns t c =
     let room = length c.branch-low.new.range in
     let whole : room ≡ free = c.branch-low.auto.range in
     let h = c.branch-high.ensures in
-    let e = node_second ask forced free k before values ask.allowance old c.root-value-root.result
+    let e = node_second ask forced free k before values ask.allowance old c.root_value-root.result
     c.requires.sound c.requires.stands r.value r.inputs c.if-eq.ensures c.if-eq-2.ensures c.requires.fits c.if-unset-eq0.false c.if-ask-eq0.false c.requires.markable
     m middle last low.reply (low.marks m refl) (low.inputs m refl) room whole
     c.branch-high.result c.branch-high.new.range c.branch-high.new.marks c.branch-high.new.values h.reply h.range h.marks h.inputs c.later-2.result c.later-2.ensures in

@@ -15,16 +15,16 @@ pub branch-reply-requires : goal.branch-reply-requires
 branch-reply-requires c =
     let q : Query = asked c.args.ask c.args.forced.now (length c.args.range.now) in
     let first = 1 + c.args.ask.variables in
-    let inputs = c.set-inputs.new.inputs in
+    let inputs = c.set_inputs.new.inputs in
     let rest = post_of 0 (first - 0) c.args.values.now in
     let few = c.requires.sound.few_variables in
     let part : length (take (first - 0) c.args.values.now) ≡ first = length-take-le (first - 0) c.args.values.now (omega arith) ∙ omega arith in
-    let stands : Stands q [] (inputs ++ rest) = start_stands q inputs rest _ part (sym (map-id inputs) ∙ c.set-inputs.ensures 0 (omega arith)) in
+    let stands : Stands q [] (inputs ++ rest) = start_stands q inputs rest _ part (sym (map-id inputs) ∙ c.set_inputs.ensures 0 (omega arith)) in
     record {
       sound = c.requires.sound;
       stands = subst (λ s. Stands q s (inputs ++ rest)) (sym (start_settings q (inputs ++ rest))) stands;
       fits = omega arith;
-      valued = omega (arith, length-append inputs rest, length-drop (first - 0) c.args.values.now, c.set-inputs.auto.inputs);
+      valued = omega (arith, length-append inputs rest, length-drop (first - 0) c.args.values.now, c.set_inputs.auto.inputs);
       unset = c.requires.unset;
       markable = ap length c.requires.unmarked ∙ length-replicate (length c.args.forced.now) false;
     }
@@ -32,7 +32,7 @@ branch-reply-requires c =
 pub returns-in-NoMove-reply : goal.returns-in-NoMove-reply
 returns-in-NoMove-reply c =
     let q : Query = asked c.args.ask c.args.forced.now (length c.args.range.now) in
-    let values = c.set-inputs.new.inputs ++ post_of 0 (1 + c.args.ask.variables - 0) c.args.values.now in
+    let values = c.set_inputs.new.inputs ++ post_of 0 (1 + c.args.ask.variables - 0) c.args.values.now in
     let free = length c.args.range.now in
     let size = length c.args.forced.now in
     let n = c.args.ask.allowance in
@@ -53,7 +53,7 @@ returns-in-NoMove-reply c =
 pub returns : goal.returns
 returns c =
     let q : Query = asked c.args.ask c.args.forced.now (length c.args.range.now) in
-    let values = c.set-inputs.new.inputs ++ post_of 0 (1 + c.args.ask.variables - 0) c.args.values.now in
+    let values = c.set_inputs.new.inputs ++ post_of 0 (1 + c.args.ask.variables - 0) c.args.values.now in
     let free = length c.args.range.now in
     let n = c.args.ask.allowance in
     let start = start_settings q values in

@@ -18,13 +18,13 @@ returns c =
     let gates = c.args.ask.gates.now in
     let first = 1 + c.args.ask.variables in
     let l = c.args.ask.root.code in
-    let n = c.saturating-sub-count.result in
+    let n = c.saturating_sub-count.result in
     let e : n ≡ l / 2 + 1 - first = omega arith in
     let F = reads c.args.forced.now in
     let room : first ≤ length c.args.values.now = omega arith in
     let walked = c.walk.ensures.walked 0 (omega arith) in
     record {
-      value = walked_value gates first l n e c.requires.inside F c.args.values.now c.walk.new.values room walked c.literal-value.result (c.literal-value.ensures 0 (omega arith));
+      value = walked_value gates first l n e c.requires.inside F c.args.values.now c.walk.new.values room walked c.literal_value.result (c.literal_value.ensures 0 (omega arith));
       walked = walked_front gates first l n e c.requires.inside F c.args.values.now c.walk.new.values room walked;
       inputs = walked_inputs gates first l n e c.requires.inside F c.args.values.now c.walk.new.values room walked;
     }

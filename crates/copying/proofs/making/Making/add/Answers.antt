@@ -6,17 +6,17 @@ use Rattle.circuit.specs.Gates.{pair, pairs}
 use Rattle.copying.proofs.Entries.{grown_none, written_one}
 use Rattle.copying.proofs.making.Making.add.Goals as goal
 
-pub returns-then-is-full : goal.returns-then-is-full
-returns-then-is-full c =
+pub returns-then-is_full : goal.returns-then-is_full
+returns-then-is_full c =
     let m = c.args.self.now in
-    let full : length m.gates.now ≤ m.used + m.made = leb-true _ _ (sym c.is-full.ensures ∙ c.if-is-full.true) in
+    let full : length m.gates.now ≤ m.used + m.made = leb-true _ _ (sym c.is_full.ensures ∙ c.if-is_full.true) in
     record { made = []; grown = grown_none m c.requires.room; full = omega arith }
 
 pub returns : goal.returns
 returns c =
     let m = c.args.self.now in
     let at = m.used + m.made in
-    let free : at < length m.gates.now = leb-false _ _ (sym c.is-full.ensures ∙ c.if-is-full.false) in (
+    let free : at < length m.gates.now = leb-false _ _ (sym c.is_full.ensures ∙ c.if-is_full.false) in (
       record {
         first_is = refl;
         used_is = refl;

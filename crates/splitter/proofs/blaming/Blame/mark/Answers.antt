@@ -2,11 +2,11 @@ use Rattle.std.proofs.Common.{◌≡◌, false, length, replicate, sym, ap, ◌�
 use Rattle.std.proofs.lemmas.List.{length-replicate, with_items_is}
 use Rattle.splitter.proofs.blaming.Blame.mark.Goals as goal
 
-pub mark-blamed-requires : goal.mark-blamed-requires
-mark-blamed-requires c =
-    let seen = c.deref-mut.ensures.value ∙ c.args.self.now.clear in
-    let long : length c.deref-mut.result.now ≡ 8129 = ap length seen ∙ length-replicate 8129 false in
-    let order : length c.deref-mut-2.result.now ≡ 8129 = ap length c.deref-mut-2.ensures.value ∙ c.args.self.now.room in
+pub mark_blamed-requires : goal.mark_blamed-requires
+mark_blamed-requires c =
+    let seen = c.deref_mut.ensures.value ∙ c.args.self.now.clear in
+    let long : length c.deref_mut.result.now ≡ 8129 = ap length seen ∙ length-replicate 8129 false in
+    let order : length c.deref_mut-2.result.now ≡ 8129 = ap length c.deref_mut-2.ensures.value ∙ c.args.self.now.room in
     record {
       ascending = c.requires.ascending;
       inside = c.requires.inside;
@@ -18,12 +18,12 @@ mark-blamed-requires c =
       clear = seen ∙ ap (λ n. replicate n false) (sym long);
     }
 
-pub invariant-of-self : goal.invariant-of-self
-invariant-of-self c = (
-  with_items_is c.args.self.now.seen c.mark-blamed.new.seen (c.mark-blamed.auto.seen ∙ c.deref-mut.ensures.len) ∙ c.mark-blamed.ensures.clear ∙ c.deref-mut.ensures.value ∙ c.args.self.now.clear,
+pub invariant_of-self : goal.invariant_of-self
+invariant_of-self c = (
+  with_items_is c.args.self.now.seen c.mark_blamed.new.seen (c.mark_blamed.auto.seen ∙ c.deref_mut.ensures.len) ∙ c.mark_blamed.ensures.clear ∙ c.deref_mut.ensures.value ∙ c.args.self.now.clear,
   (
-    ap length (with_items_is c.args.self.now.order c.mark-blamed.new.order (c.mark-blamed.auto.order ∙ c.deref-mut-2.ensures.len)) ∙ c.mark-blamed.auto.order
-        ∙ ap length c.deref-mut-2.ensures.value ∙ c.args.self.now.room,
+    ap length (with_items_is c.args.self.now.order c.mark_blamed.new.order (c.mark_blamed.auto.order ∙ c.deref_mut-2.ensures.len)) ∙ c.mark_blamed.auto.order
+        ∙ ap length c.deref_mut-2.ensures.value ∙ c.args.self.now.room,
     tt,
   ),
 )
