@@ -7,7 +7,7 @@ import os
 import re
 
 PARTS = re.compile(r"(?<![\w'])[A-Za-z_+][\w']*(?:-[\w'+]+)+")
-STD = {"is_some", "is_none", "is_ok", "is_err", "is_empty", "copy_from_slice", "deref_mut", "from_residual", "invariant_of", "trailing_zeros", "as_ref", "as_mut", "split_at", "split_at_mut"}
+STD = {"is_some", "is_none", "is_ok", "is_err", "is_empty", "copy_from_slice", "deref_mut", "from_residual", "invariant_of", "in_err", "in_ok", "in_default", "slice_bounds", "trailing_zeros", "as_ref", "as_mut", "split_at", "split_at_mut"}
 
 
 def source_names(crate):

@@ -18,7 +18,7 @@ pub record Grown (m m' : Making) (hs : List Pair) : Type 0 where
   pub first_is : m'.first ≡ m.first
   pub used_is : m'.used ≡ m.used
   pub made_is : m'.made ≡ m.made + length hs
-  pub name_is : m'.gates.name ≡ m.gates.name
+  pub name_is : m'.gates.ghost_name ≡ m.gates.ghost_name
   pub gates_are : pairs m'.gates.now ≡ written (pairs m.gates.now) (m.used + m.made) hs
   pub room : m.used + m.made + length hs ≤ length m.gates.now
 

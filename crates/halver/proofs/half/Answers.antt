@@ -30,8 +30,8 @@ returns-in-Move g c =
       marks = s.marks ∙ half_marks m q c.args.first _ below c.args.allowance _ _ (length-set c.args.forced.now c.args.ask.start c.value_of-value.result);
     }
 
-pub returns-in-default : goal.returns-in-default
-returns-in-default g c =
+pub returns-in_default : goal.returns-in_default
+returns-in_default g c =
     let q : Query = asked c.args.ask c.args.forced.now (length c.args.range.now) in
     let m = g.row.S-Searcher.meaning c.args.below.now in
     let s = c.query-reply.ensures in
@@ -41,6 +41,6 @@ returns-in-default g c =
       same = s.same;
       put_back = put_back q c.requires.sound c.requires.some c.args.first c.query-reply.new.forced c.value_of-value.result s.put_back;
       reply = s.reply ∙ half_reply m q c.args.first _ below c.args.allowance;
-      range = half_stays m q c.args.first _ below c.args.allowance c.args.range.now c.query-reply.new.range _ c.requires.some long s.range c.query-reply.result s.reply c.in-default.not-Move c.requires.unset;
+      range = half_stays m q c.args.first _ below c.args.allowance c.args.range.now c.query-reply.new.range _ c.requires.some long s.range c.query-reply.result s.reply c.in_default.not-Move c.requires.unset;
       marks = s.marks ∙ half_marks m q c.args.first _ below c.args.allowance _ _ (length-set c.args.forced.now c.args.ask.start c.value_of-value.result);
     }

@@ -6,7 +6,7 @@ use Rattle.copies.proofs.Passes.{core_node, core_push, core_shorter}
 use Rattle.copying.proofs.Entries.{grown_length}
 use Rattle.copying.proofs.Joining.{SoFar, copy_core, so_far_none, so_far_more, so_far_same, so_far_stopped, joined_some}
 use Rattle.copying.proofs.making.join_core.Goals as goal
-use Rattle.copying.proofs.making.join_core.Goals.{in-Some+in-ok-join_copy, in-default}
+use Rattle.copying.proofs.making.join_core.Goals.{in-Some+in-ok-join_copy, in_default}
 
 pub loop-node-init : goal.loop-node-init
 loop-node-init c = so_far_none c.args.making.now c.args.copies.now c.requires.room
@@ -17,14 +17,14 @@ join_copy-requires c =
     let long = grown_length c.args.making.now c.loop-node.making _ G in
     record { small = omega (arith, G.first_is); room = omega (arith, G.used_is, G.made_is, G.room) }
 
-pub returns-in-err-join_copy : goal.returns-in-err-join_copy
-returns-in-err-join_copy c =
+pub returns-in_err-join_copy : goal.returns-in_err-join_copy
+returns-in_err-join_copy c =
     let marks : ℕ → Bool = λ n. get_or c.args.core.now n false in
     let values = reads c.args.values.now in
     let p = err_from_is_err_and c.from_residual.result c.from_residual.ensures.1 in
     rw p.1 (so_far_stopped c.args.making.now c.loop-node.making c.args.copies.now (core_of marks values c.loop-node.node) c.loop-node.joined c.loop-node.invariant
     c.join_copy.new.making (core_of marks values (length c.args.copies.now)) c.copy_of-copy.result
-    (core_shorter marks values c.loop-node.node (length c.args.copies.now) c.in-Some.literal.code (omega arith) c.in-Some.ensures) c.in-err-join_copy.ensures)
+    (core_shorter marks values c.loop-node.node (length c.args.copies.now) c.in-Some.literal.code (omega arith) c.in-Some.ensures) c.in_err-join_copy.ensures)
 
 pub loop-node-preserved : goal.loop-node-preserved
 loop-node-preserved c =
@@ -34,14 +34,14 @@ loop-node-preserved c =
     elim c.match-core_literal.branch [
       | in-Some+in-ok-join_copy w ↦ subst₂ (λ m e. SoFar c.args.making.now m c.args.copies.now (core_of marks values (c.loop-node.node + 1)) e) (sym w.making-is) (sym w.joined-is)
           (so_far_more c.args.making.now c.loop-node.making c.args.copies.now core c.loop-node.joined c.loop-node.invariant w.join_copy.new.making (core_of marks values (c.loop-node.node + 1))
-          w.in-Some.literal.code w.copy_of-copy.result w.in-ok-join_copy.field-0
+          w.in-Some.literal.code w.copy_of-copy.result w.in_ok-join_copy.field-0
           (core_push marks values c.loop-node.node (c.loop-node.node + 1) (w.in-Some.literal.code ∷ []) (omega arith) w.in-Some.ensures)
           (copy_core c.args.copies.now w.in-Some.literal.code w.copy_of-copy.result.code w.flipped.result.code
           (omega (arith, core_node (marks c.loop-node.node) (values c.loop-node.node) c.loop-node.node w.in-Some.literal.code w.in-Some.ensures)) w.flipped.ensures w.copy_of-copy.ensures)
-          w.in-ok-join_copy.ensures)
-      | in-default w ↦ subst₂ (λ m e. SoFar c.args.making.now m c.args.copies.now (core_of marks values (c.loop-node.node + 1)) e) (sym w.making-is) (sym w.joined-is)
+          w.in_ok-join_copy.ensures)
+      | in_default w ↦ subst₂ (λ m e. SoFar c.args.making.now m c.args.copies.now (core_of marks values (c.loop-node.node + 1)) e) (sym w.making-is) (sym w.joined-is)
           (so_far_same c.args.making.now c.loop-node.making c.args.copies.now core c.loop-node.joined c.loop-node.invariant (core_of marks values (c.loop-node.node + 1))
-          (core_push marks values c.loop-node.node (c.loop-node.node + 1) [] (omega arith) w.in-default.ensures))
+          (core_push marks values c.loop-node.node (c.loop-node.node + 1) [] (omega arith) w.in_default.ensures))
     ]
 
 pub returns-in-Some-joined : goal.returns-in-Some-joined

@@ -31,8 +31,8 @@ copy_gate-requires c =
       right = omega (arith, low.1);
     }
 
-pub returns-in-err-copy : goal.returns-in-err-copy
-returns-in-err-copy c =
+pub returns-in_err-copy : goal.returns-in_err-copy
+returns-in_err-copy c =
     let m₀ = c.args.making.now in
     let part = part_in c.args.bounds c.args.play.now in
     let ns = shown c.args.copies.now in
@@ -44,7 +44,7 @@ returns-in-err-copy c =
     let deep : m₀.first ≤ l / 2 = omega (arith, G.first_is) in
     let within : l / 2 < m₀.first + m₀.used = omega arith in
     let p = err_from_is_err_and c.from_residual.result c.from_residual.ensures.1 in
-    rw p.1 (gate_stopped m₀ c.loop-number.making part ns l cs c.requires.start c.requires.room c.requires.ascending deep within G now_at.1 c.copy_gate.new.making (2 * length c.args.copies.now) (wanted_there m₀ part ns l c.loop-number.making cs c.at.result c.is_some.result (omega arith) o c.is_some.ensures c.if-is_some.true now_at) (omega arith) c.in-err-copy.ensures)
+    rw p.1 (gate_stopped m₀ c.loop-number.making part ns l cs c.requires.start c.requires.room c.requires.ascending deep within G now_at.1 c.copy_gate.new.making (2 * length c.args.copies.now) (wanted_there m₀ part ns l c.loop-number.making cs c.at.result c.is_some.result (omega arith) o c.is_some.ensures c.if-is_some.true now_at) (omega arith) c.in_err-copy.ensures)
 
 pub loop-number-preserved : goal.loop-number-preserved
 loop-number-preserved c =
@@ -66,7 +66,7 @@ loop-number-preserved c =
         | else-node-making+in-ok-copy w' ↦ going_at m₀ part ns (suc l) _ _ _ _ _ next (sym (w.making-is ∙ w'.making-is)) (sym w.copies-is)
             (going_gate m₀ part ns l m cs w.put_copy.new.copies c.at.result c.is_some.result w.if-node-making.copy (omega arith) o c.is_some.ensures w.if-is_some.true now_at
             w.put_copy.ensures w.put_copy.auto.copies w'.copy_gate.new.making c.requires.start c.requires.room c.requires.ascending (omega (arith, G.first_is, w'.if-node-making.false, w.node-then-is_some.ensures)) (omega arith)
-            (subst (λ x. GateCopied m w'.copy_gate.new.making cs l x) (sym w'.copy-is) w'.in-ok-copy.ensures))
+            (subst (λ x. GateCopied m w'.copy_gate.new.making cs l x) (sym w'.copy-is) w'.in_ok-copy.ensures))
       ]
       | else-is_some w ↦ going_at m₀ part ns (suc l) _ _ _ _ _ next (sym w.making-is) (sym w.copies-is)
           (going_skip m₀ part ns l m cs c.at.result c.is_some.result (omega arith) o c.is_some.ensures w.if-is_some.false now_at)

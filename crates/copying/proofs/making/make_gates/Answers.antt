@@ -4,14 +4,14 @@ use Rattle.copying.proofs.Entries.{grown_length}
 use Rattle.copying.proofs.Settling.{copies_stopped, joins_stopped, root_stopped, root_made, grown_joins}
 use Rattle.copying.proofs.making.make_gates.Goals as goal
 
-pub returns-in-err-make_copies : goal.returns-in-err-make_copies
-returns-in-err-make_copies c =
+pub returns-in_err-make_copies : goal.returns-in_err-make_copies
+returns-in_err-make_copies c =
     let p = err_from_is_err_and c.from_residual.result c.from_residual.ensures.1 in
-    rw p.1 (copies_stopped c.args.making.now c.args.lost c.args.copies.now c.make_copies.new.making c.in-err-make_copies.ensures)
+    rw p.1 (copies_stopped c.args.making.now c.args.lost c.args.copies.now c.make_copies.new.making c.in_err-make_copies.ensures)
 
 pub join_core-requires : goal.join_core-requires
 join_core-requires c =
-    let G = c.in-ok-make_copies.ensures.grown in
+    let G = c.in_ok-make_copies.ensures.grown in
     let long = grown_length c.args.making.now c.make_copies.new.making _ G in
     let k = c.make_copies.auto.copies in
     record {
@@ -22,17 +22,17 @@ join_core-requires c =
       nodes = omega arith;
     }
 
-pub returns-in-err-joined : goal.returns-in-err-joined
-returns-in-err-joined c =
-    let p = err_from_is_err_and c.from_residual-in-err-joined.result c.from_residual-in-err-joined.ensures.1 in
-    rw p.1 (joins_stopped c.args.making.now c.args.lost c.args.copies.now c.make_copies.new.making c.make_copies.new.copies c.requires.start c.in-ok-make_copies.ensures
-    (length c.make_copies.new.copies) c.make_copies.auto.copies c.join_core.new.making c.in-err-joined.ensures)
+pub returns-in_err-joined : goal.returns-in_err-joined
+returns-in_err-joined c =
+    let p = err_from_is_err_and c.from_residual-in_err-joined.result c.from_residual-in_err-joined.ensures.1 in
+    rw p.1 (joins_stopped c.args.making.now c.args.lost c.args.copies.now c.make_copies.new.making c.make_copies.new.copies c.requires.start c.in_ok-make_copies.ensures
+    (length c.make_copies.new.copies) c.make_copies.auto.copies c.join_core.new.making c.in_err-joined.ensures)
 
 pub add-requires : goal.add-requires
 add-requires c =
     let m = c.args.making.now in
-    let G = grown_joins m c.args.lost c.args.copies.now c.make_copies.new.making c.make_copies.new.copies c.requires.start c.in-ok-make_copies.ensures
-    (length c.make_copies.new.copies) c.make_copies.auto.copies c.join_core.new.making c.in-ok-joined.joined c.in-ok-joined.ensures in
+    let G = grown_joins m c.args.lost c.args.copies.now c.make_copies.new.making c.make_copies.new.copies c.requires.start c.in_ok-make_copies.ensures
+    (length c.make_copies.new.copies) c.make_copies.auto.copies c.join_core.new.making c.in_ok-joined.joined c.in_ok-joined.ensures in
     let long = grown_length m c.join_core.new.making _ G in
     record { small = omega (arith, G.first_is); room = omega (arith, G.used_is, G.made_is, G.room) }
 
@@ -44,7 +44,7 @@ returns c =
     let cs' = c.make_copies.new.copies in
     let m₂ = c.join_core.new.making in
     MatchResult-weaker c.add.result c.add.ensures
-    (λ l p. root_made m c.args.lost cs m₁ cs' c.requires.start c.in-ok-make_copies.ensures (length cs') c.make_copies.auto.copies m₂ c.in-ok-joined.joined c.in-ok-joined.ensures
+    (λ l p. root_made m c.args.lost cs m₁ cs' c.requires.start c.in_ok-make_copies.ensures (length cs') c.make_copies.auto.copies m₂ c.in_ok-joined.joined c.in_ok-joined.ensures
     c.add.new.self l _ c.root_gate.ensures p.0 p.1)
-    (λ _ s. root_stopped m c.args.lost cs m₁ cs' c.requires.start c.in-ok-make_copies.ensures (length cs') c.make_copies.auto.copies m₂ c.in-ok-joined.joined c.in-ok-joined.ensures
+    (λ _ s. root_stopped m c.args.lost cs m₁ cs' c.requires.start c.in_ok-make_copies.ensures (length cs') c.make_copies.auto.copies m₂ c.in_ok-joined.joined c.in_ok-joined.ensures
     c.add.new.self s)

@@ -54,10 +54,10 @@ drop-making-requires c =
     let long : length c.need_inputs.new.copies ≡ c.args.first + c.args.used = j ∙ k ∙ ap length c.requires.clear ∙ length-replicate (c.args.first + c.args.used) none in
     let shows = needs_shown c.args.first c.args.used gs t c.args.copies.now c.need_core.new.copies c.need_inputs.new.copies _ old (ap length old ∙ length-take-le c.args.used (pairs gs) room) c.requires.clear
     c.need_core.ensures c.need_inputs.ensures k in
-    stopped_room _ c.make_gates.new.making t c.need_inputs.new.copies c.args.first c.args.used (pairs gs) refl refl refl refl room long shows c.in-err-root.ensures
+    stopped_room _ c.make_gates.new.making t c.need_inputs.new.copies c.args.first c.args.used (pairs gs) refl refl refl refl room long shows c.in_err-root.ensures
 
-pub returns-in-err-root : goal.returns-in-err-root
-returns-in-err-root c =
+pub returns-in_err-root : goal.returns-in_err-root
+returns-in_err-root c =
     let gs = c.args.gates.now in
     let t = c.args.lost in
     let k = c.need_core.auto.copies in
@@ -68,7 +68,7 @@ returns-in-err-root c =
     let long : length c.need_inputs.new.copies ≡ c.args.first + c.args.used = j ∙ k ∙ ap length c.requires.clear ∙ length-replicate (c.args.first + c.args.used) none in
     let shows = needs_shown c.args.first c.args.used gs t c.args.copies.now c.need_core.new.copies c.need_inputs.new.copies _ old (ap length old ∙ length-take-le c.args.used (pairs gs) room) c.requires.clear
     c.need_core.ensures c.need_inputs.ensures k in
-    let S = c.in-err-root.ensures in
+    let S = c.in_err-root.ensures in
     let p = err_from_is_err_and c.from_residual.result c.from_residual.ensures.1 in
     let table = stopped_table _ c.make_gates.new.making t c.need_inputs.new.copies c.args.first c.args.used (pairs gs) refl refl refl refl room long shows S c.requires.blank in
     let n = S.grown.name_is in
@@ -89,10 +89,10 @@ returns c =
     let long : length c.need_inputs.new.copies ≡ c.args.first + c.args.used = j ∙ k ∙ ap length c.requires.clear ∙ length-replicate (c.args.first + c.args.used) none in
     let shows = needs_shown c.args.first c.args.used gs t c.args.copies.now c.need_core.new.copies c.need_inputs.new.copies _ old (ap length old ∙ length-take-le c.args.used (pairs gs) room) c.requires.clear
     c.need_core.ensures c.need_inputs.ensures k in
-    let A = c.in-ok-root.ensures in
-    let table = settled_table _ c.make_gates.new.making t c.need_inputs.new.copies c.args.first c.args.used (pairs gs) refl refl refl refl room long shows c.in-ok-root.root A in
+    let A = c.in_ok-root.ensures in
+    let table = settled_table _ c.make_gates.new.making t c.need_inputs.new.copies c.args.first c.args.used (pairs gs) refl refl refl refl room long shows c.in_ok-root.root A in
     let n = A.grown.name_is in
     record {
-      answer = settled_answer _ c.make_gates.new.making t c.need_inputs.new.copies c.args.first c.args.used (pairs gs) refl refl refl refl room long shows c.in-ok-root.root A c.commit.result c.commit.ensures.made;
+      answer = settled_answer _ c.make_gates.new.making t c.need_inputs.new.copies c.args.first c.args.used (pairs gs) refl refl refl refl room long shows c.in_ok-root.root A c.commit.result c.commit.ensures.made;
       table = search (rules, table, n);
     }

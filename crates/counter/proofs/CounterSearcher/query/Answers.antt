@@ -28,7 +28,7 @@ returns-in-Some c =
 pub loop-group-preserved : goal.loop-group-preserved
 loop-group-preserved c =
     let q : Query = asked c.args.ask c.args.forced.now (length c.args.range.now) in
-    (omega arith, tried_more q c.loop-group.group c.loop-group.invariant.1 (sym c.in-default.ensures), c.loop-group.invariant.2, omega arith)
+    (omega arith, tried_more q c.loop-group.group c.loop-group.invariant.1 (sym c.in_default.ensures), c.loop-group.invariant.2, omega arith)
 
 pub returns : goal.returns
 returns c =

@@ -11,7 +11,7 @@ use Rattle.halving.proofs.Halved.{halves_some}
 use Rattle.search.proofs.Shown.{Shown}
 use Rattle.halving.proofs.Replies.{at_once, within, by_first, by_second, second_shown, lost_unset, joined_kept}
 use Rattle.halver.proofs.Halver.halve.Goals as goal
-use Rattle.halver.proofs.Halver.halve.Goals.{in-NoMove-second, in-default-second}
+use Rattle.halver.proofs.Halver.halve.Goals.{in-NoMove-second, in_default-second}
 
 pub returns-then-ask-eq0 : goal.returns-then-ask-eq0
 returns-then-ask-eq0 g c =
@@ -32,15 +32,15 @@ later-requires g c =
     let q : Query = asked c.args.ask c.args.forced.now (length c.args.range.now) in
     omega (arith, ap steps_of c.half-first.ensures.reply, within (half (g.row.S-Searcher.meaning c.args.self.now.below) q false) (c.args.ask.allowance - 1))
 
-pub returns-in-default : goal.returns-in-default
-returns-in-default g c =
+pub returns-in_default : goal.returns-in_default
+returns-in_default g c =
     let q : Query = asked c.args.ask c.args.forced.now (length c.args.range.now) in
     let m = g.row.S-Searcher.meaning c.args.self.now.below in
     let s = c.half-first.ensures in
     let one : c.args.ask.allowance ≡ 1 + (c.args.ask.allowance - 1) = omega arith in
     let first : Shown (half m q false) (c.args.ask.allowance - 1) q.free (length q.forced) c.half-first.result c.half-first.new.range c.half-first.new.marks =
     record { reply = s.reply; range = s.range; marks = s.marks } in
-    let both = by_first q.start q.free (length q.forced) c.args.ask.allowance (c.args.ask.allowance - 1) one (half m q false).outcome (half m q false).need (half m q true) _ _ _ first c.in-default.not-NoMove in
+    let both = by_first q.start q.free (length q.forced) c.args.ask.allowance (c.args.ask.allowance - 1) one (half m q false).outcome (half m q false).need (half m q true) _ _ _ first c.in_default.not-NoMove in
     let all = sym (halves_some m q c.requires.some) in
     record {
       same = s.same;
@@ -89,12 +89,12 @@ returns g c =
     let lost : (k : ℕ) → c.half-second.result ≡ NoMove k → c.match-second.marks ≡ joined q.start c.half-first.new.marks c.half-second.new.marks =
     λ k e. elim c.match-second.branch [
       | in-NoMove-second w ↦ w.marks-is ∙ w.join_to.ensures ∙ joined_kept q.start _ _ _ c.half-first.new.marks c.half-second.new.marks same_length c.take_over.ensures.kept
-      | in-default-second w ↦ absurd (w.in-default-second.not-NoMove k e)
+      | in_default-second w ↦ absurd (w.in_default-second.not-NoMove k e)
     ] in
     let other : ((k : ℕ) → c.half-second.result ≡ NoMove k → ⊥) → c.match-second.marks ≡ c.half-second.new.marks =
     λ h. elim c.match-second.branch [
       | in-NoMove-second w ↦ absurd (h _ w.in-NoMove-second.is)
-      | in-default-second w ↦ w.marks-is
+      | in_default-second w ↦ w.marks-is
     ] in
     let both = by_second q.start q.free (length q.forced) c.args.ask.allowance (c.args.ask.allowance - 1) one (half m q false).outcome (half m q false).need (half m q true)
     c.in-NoMove.need c.half-first.new.range c.half-first.new.marks first c.half-second.result c.half-second.new.range c.half-second.new.marks c.match-second.marks second lost other in

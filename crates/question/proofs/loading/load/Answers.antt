@@ -29,11 +29,11 @@ returns-then-unfit c =
     let right = subst (Right bytes) (sym o.judgement) o.right in
     record { result = is; accepted_exactly = accepted_exactly bytes table (refused TableSize table) right is; refused_exactly = refused_exactly bytes table (refused TableSize table) right is; one_encoding = one_encoding }
 
-pub slice-bounds-fill-count : goal.slice-bounds-fill-count
-slice-bounds-fill-count c = omega (arith, bytes_long c.args.bytes.now c.in-Ok.outline c.in-Ok.ensures, ap length c.blocks-2.ensures)
+pub slice_bounds-fill-count : goal.slice_bounds-fill-count
+slice_bounds-fill-count c = omega (arith, bytes_long c.args.bytes.now c.in-Ok.outline c.in-Ok.ensures, ap length c.blocks-2.ensures)
 
-pub slice-bounds-fill-start : goal.slice-bounds-fill-start
-slice-bounds-fill-start c =
+pub slice_bounds-fill-start : goal.slice_bounds-fill-start
+slice_bounds-fill-start c =
     let h : 7 * length c.blocks-2.result.now ≤ length c.args.bytes.now = omega (arith, bytes_long c.args.bytes.now c.in-Ok.outline c.in-Ok.ensures, ap length c.blocks-2.ensures) in
     search rules
 
@@ -49,7 +49,17 @@ invariant_of-result c =
     let m = made c.args.bytes.now o c.in-Ok.ensures c.args.table c.fill.new.table (omega arith) (ap (unfit o.gates) (sym c.len.ensures) ∙ sym c.unfit.ensures ∙ c.if-unfit.false)
     (7 * length c.blocks-2.result.now) (ap (λ (bs : List Block). 7 * length bs) c.blocks-2.ensures) c.fill.ensures in
     let w = m.well_formed in
-    (m.room, (m.small, (m.free, (w.some, (w.good.sized, (w.good.alternating, (omega (arith, w.good.few_gates, m.counted), (w.good.ascending, (omega (arith, w.output, m.counted), tt)))))))))
+    record {
+      room = m.room;
+      small = m.small;
+      free = m.free;
+      some = w.some;
+      sized = w.good.sized;
+      alternating = w.good.alternating;
+      few = omega (arith, w.good.few_gates, m.counted);
+      ascending = w.good.ascending;
+      inside = omega (arith, w.output, m.counted);
+    }
 
 pub returns : goal.returns
 returns c =

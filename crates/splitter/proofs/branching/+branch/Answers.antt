@@ -91,8 +91,8 @@ branch-low-requires t c =
       (c.requires.sound, (stands, (omega arith, (simp length-set (c.root_value-root.auto.values ∙ c.requires.valued), (c.requires.unset, c.requires.markable))))),
     )
 
-pub returns-in-default-low : goal.returns-in-default-low
-returns-in-default-low t c =
+pub returns-in_default-low : goal.returns-in_default-low
+returns-in_default-low t c =
     let ask = c.args.ask in
     let forced = c.args.forced.now in
     let free = length c.args.range.now in
@@ -104,7 +104,7 @@ returns-in-default-low t c =
     let e = node_first ask forced free k before values ask.allowance old c.root_value-root.result
     c.requires.sound c.requires.stands r.value r.inputs c.if-eq.ensures c.if-eq-2.ensures c.requires.fits c.if-unset-eq0.false c.if-ask-eq0.false c.requires.markable
     c.branch-low.result c.branch-low.new.range c.branch-low.new.marks c.branch-low.new.values
-    c.branch-low.ensures.reply c.in-default-low.not-NoMove c.branch-low.ensures.range c.later.result c.later.ensures in
+    c.branch-low.ensures.reply c.in_default-low.not-NoMove c.branch-low.ensures.range c.later.result c.later.ensures in
     record {
       reply = e.reply;
       range = e.range;

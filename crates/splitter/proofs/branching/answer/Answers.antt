@@ -63,5 +63,5 @@ returns c =
       reply = reply;
       range = e.range ∙ ap (λ s. range_after (tree q free s) n free) start;
       marks = c.clear.ensures ∙ ap (λ k. replicate k false) (c.branch-reply.auto.marks ∙ ap length c.requires.unmarked ∙ length-replicate (length c.args.forced.now) false)
-          ∙ sym (marks_other (splits q) n (length c.args.forced.now) (λ m x. c.in-default-reply.not-NoMove m (reply ∙ x)));
+          ∙ sym (marks_other (splits q) n (length c.args.forced.now) (λ m x. c.in_default-reply.not-NoMove m (reply ∙ x)));
     }

@@ -8,7 +8,11 @@ pub invariant_of-result : goal.invariant_of-result
 invariant_of-result c =
     let long = length-take-le c.args.self.count c.args.self.blocks (omega arith) in
     let inside : c.args.self.count < length c.args.self.blocks = omega arith in
-    (omega arith, (ap (λ n. n + c.args.block.size) c.args.self.summed ∙ sym (ap total (take_more_set c.args.self.blocks c.args.self.count c.args.block inside) ∙ total_push _ c.args.block), (omega arith, tt)))
+    record {
+      few = omega arith;
+      summed = ap (λ n. n + c.args.block.size) c.args.self.summed ∙ sym (ap total (take_more_set c.args.self.blocks c.args.self.count c.args.block inside) ∙ total_push _ c.args.block);
+      small = omega arith;
+    }
 
 pub returns : goal.returns
 returns c =
