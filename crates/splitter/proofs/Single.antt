@@ -35,12 +35,3 @@ module _ (gs : List Gate) (first l count : ℕ) (count_is : count ≡ l / 2 + 1 
       sym (map-id (take (first + length some) ys)) ∙ walked ∙ ap (values_of (pairs some) F) (map-id (take first xs)) in
       sym (take-take first (first + length some) ys (omega arith))
       ∙ ap₂ take (sym (length-take-le first xs room)) whole ∙ values_start (pairs some) F (take first xs)
-
--- what `!=` says
-pub differs : {P : Type 0} → (x : Bool) × cond x P (P → ⊥) × (true ≡ not x) → P → ⊥
-differs (true, p, e) = absurd (true≢false e)
-differs (false, p, e) = p
-
-pub same : {P : Type 0} → (x : Bool) × cond x P (P → ⊥) × (false ≡ not x) → P
-same (true, p, e) = p
-same (false, p, e) = absurd (false≢true e)

@@ -6,7 +6,7 @@ ghost use Rattle.search.specs.Asking.{asked};
 ghost use Rattle.search.specs.Queries.{Sound};
 ghost use Rattle.search.specs.declared.Reply.TheVariants.{NoMove};
 ghost use Rattle.splitting.specs.Steps.{Stands, answer_at, settings_at, settled, steps_of};
-ghost use Rattle.splitting.specs.Steps.{later as later-by};
+ghost use Rattle.splitting.specs.Steps.{later as later_by};
 ghost use Rattle.splitting.specs.Tree.{join, splits};
 ghost use Rattle.valuation.specs.Circuit.{Ascending, lit, reads, values_of};
 ghost use Rattle.valuation.specs.declared.Value.TheVariants.{Unknown};
@@ -58,7 +58,7 @@ fn write_setting(settings: &[Value], range: &mut [Value])
 // A reply with some steps more.
 fn later(steps: u64, reply: Reply) -> Reply
     requires { steps + steps_of reply < 2 ^ 64 }
-    ensures { result ≡ later-by steps reply }
+    ensures { result ≡ later_by steps reply }
 {
     match reply {
         Reply::Move(need) => Reply::Move(steps + need),

@@ -24,7 +24,7 @@ returns g c =
       right = e.right;
       reply = e.reply;
       play = e.play;
-      marks = marks_front (reply_at (g.row.S-Searcher.meaning c.args.searcher.now) c.args.level c.args.gates.now c.args.play.now) (n - 0) c.args.marks.now c.ask_nodes.new.marks e.marks
+      marks = marks_front (reply_at (g.S.Searcher.meaning c.args.searcher.now) c.args.level c.args.gates.now c.args.play.now) (n - 0) c.args.marks.now c.ask_nodes.new.marks e.marks
           (c.ask_nodes.auto.marks ∙ length-take-le (n - 0) c.args.marks.now (omega (arith, c.requires.marks.long)));
       values = same_front (n - 0) c.args.values.now c.ask_nodes.new.values e.values;
       forced = same_front (n - 0) c.args.forced.now c.ask_nodes.new.forced e.forced;

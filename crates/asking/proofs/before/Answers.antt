@@ -22,8 +22,8 @@ pub loop-block-init : goal.loop-block-init
 unfolding total
 loop-block-init c = refl
 
-pub overflow-add-sum : goal.overflow-add-sum
-overflow-add-sum c =
+pub overflow_add-sum : goal.overflow_add-sum
+overflow_add-sum c =
     let xs = take (c.min.result - 0) c.args.blocks.now in
     omega (arith, c.loop-block.invariant, sym (more xs c.loop-block.block-index), total_take_le xs (c.loop-block.block-index + 1), total_take_le c.args.blocks.now (c.min.result - 0), c.requires)
 

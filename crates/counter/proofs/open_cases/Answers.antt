@@ -25,7 +25,7 @@ pub returns : goal.returns
 returns c = λ i h.
     let settings = settings_from c.args.ask.start (map of_bool (setting c.args.free (64 * c.args.group + i))) in
     let front : length (take (1 + c.args.ask.variables - 0) c.args.values.now) ≡ 1 + c.args.ask.variables = simp length-take (omega arith) in
-    on_without c.cases_that_count.result c.false_cases.result i _ _ c.false_cases.type-inv h (c.cases_that_count.ensures i h)
+    on_without c.cases_that_count.result c.false_cases.result i _ _ c.false_cases.type_inv h (c.cases_that_count.ensures i h)
     (c.false_cases.ensures i ∙ ap is_false (c.evaluate-root.ensures.value i h
     ∙ case_root (λ (v : Wide). case_value v.trues v.falses i) (pairs c.args.ask.gates.now) (reads c.args.forced.now) settings
     (1 + c.args.ask.variables) c.args.ask.root.code c.set_group.new.inputs _ (c.set_group.auto.inputs ∙ front) (c.set_group.ensures i h ∙ ap (λ k. input_values k (reads c.args.forced.now) settings) front)))

@@ -18,7 +18,7 @@ query-reply-requires g c =
 pub returns-in-Move : goal.returns-in-Move
 returns-in-Move g c =
     let q : Query = asked c.args.ask c.args.forced.now (length c.args.range.now) in
-    let m = g.row.S-Searcher.meaning c.args.below.now in
+    let m = g.S.Searcher.meaning c.args.below.now in
     let s = c.in-Move.ensures in
     let long = tail_length c.args.range.now in
     let below = ap m (asked_under q c.args.first c.value_of-value.result _ c.value_of-value.ensures long) in
@@ -33,7 +33,7 @@ returns-in-Move g c =
 pub returns-in_default : goal.returns-in_default
 returns-in_default g c =
     let q : Query = asked c.args.ask c.args.forced.now (length c.args.range.now) in
-    let m = g.row.S-Searcher.meaning c.args.below.now in
+    let m = g.S.Searcher.meaning c.args.below.now in
     let s = c.query-reply.ensures in
     let long = tail_length c.args.range.now in
     let below = ap m (asked_under q c.args.first c.value_of-value.result _ c.value_of-value.ensures long) in

@@ -25,8 +25,8 @@ ask_tables-reply-requires g c =
     let present : ticket_present b.desk c.args.ticket.stub ≡ true = sym c.has_ticket.ensures ∙ c.if-not-has_ticket.false in
     subst (λ (k : Level). Ready k t l.play l.values l.forced l.marks) (sym c.level.ensures) (ready b.frame b.desk t l mine (playing_since b.desk c.args.ticket.stub present) b.rooted)
 
-pub overflow-add-desk : goal.overflow-add-desk
-overflow-add-desk g c = omega (arith, c.args.self.now.deep, few_blocks c.args.self.now.frame)
+pub overflow_add-desk : goal.overflow_add-desk
+overflow_add-desk g c = omega (arith, c.args.self.now.deep, few_blocks c.args.self.now.frame)
 
 pub paid-desk-requires : goal.paid-desk-requires
 paid-desk-requires g c = ?

@@ -1,4 +1,4 @@
-use Rattle.std.proofs.Common.{◌≡◌, ◌-◌, false, ◌&&◌, eqb, [], ◌∷◌, sym, refl, ap, ◌∙◌, subst, arith}
+use Rattle.std.proofs.Common.{◌≡◌, ◌-◌, false, ◌&&◌, eqb, [], ◌∷◌, sym, refl, ap, ◌∙◌, subst, arith, rules}
 use Rattle.std.proofs.lemmas.Result.{MatchResult-weaker}
 use Rattle.std.proofs.lemmas.Bool.{and_left, and_right, ne_eqb, false≢true}
 use Rattle.copying.specs.Gates.{gate_in}
@@ -27,7 +27,7 @@ returns-then-eq-2 c =
     same_copied m c.args.copies.now c.args.place.code (c.node.result - m.first) _ (omega arith) (omega arith)
     c.left-left.result.code c.right-right.result.code c.flipped_by.result.code c.flipped_by-2.result.code c.copy_of-left_copy.result.code c.copy_of-right_copy.result.code
     c.left-left.ensures c.right-right.ensures c.flipped_by.ensures c.flipped_by-2.ensures c.copy_of-left_copy.ensures c.copy_of-right_copy.ensures
-    c.plain.result c.requires.room (c.if-eq.ensures.0 refl) (c.if-eq-2.ensures.0 refl) c.plain.ensures
+    c.plain.result c.requires.room (let h = c.if-eq.ensures in search rules) (let h = c.if-eq-2.ensures in search rules) c.plain.ensures
 
 pub returns-else-eq : goal.returns-else-eq
 returns-else-eq c =
@@ -38,8 +38,8 @@ returns-else-eq c =
     let b = c.right-right.result.code in
     let differ : (eqb x a && eqb y b) ≡ false =
     elim c.else-eq.branch [
-      | else-eq-via-then-eq+else-eq-2 w ↦ and_right _ _ (ne_eqb y b (λ e. false≢true (w.if-eq-2.ensures.1 e)))
-      | else-eq-via-else-eq w ↦ and_left _ _ (ne_eqb x a (λ e. false≢true (w.if-eq.ensures.1 e)))
+      | else-eq-via-then-eq+else-eq-2 w ↦ and_right _ _ (sym w.if-eq-2.ensures)
+      | else-eq-via-else-eq w ↦ and_left _ _ (sym w.if-eq.ensures)
     ]
     in MatchResult-weaker c.add.result c.add.ensures
     (λ l p. new_copied m c.args.copies.now c.args.place.code (c.node.result - m.first) _ (omega arith) (omega arith) a b c.flipped_by.result.code c.flipped_by-2.result.code x y

@@ -6,7 +6,7 @@ use Rattle.copies.proofs.Passes.{core_node, core_push, core_shorter}
 use Rattle.copying.proofs.Entries.{grown_length}
 use Rattle.copying.proofs.Joining.{SoFar, copy_core, so_far_none, so_far_more, so_far_same, so_far_stopped, joined_some}
 use Rattle.copying.proofs.making.join_core.Goals as goal
-use Rattle.copying.proofs.making.join_core.Goals.{in-Some+in-ok-join_copy, in_default}
+use Rattle.copying.proofs.making.join_core.Goals.{in-Some+in_ok-join_copy, in_default}
 
 pub loop-node-init : goal.loop-node-init
 loop-node-init c = so_far_none c.args.making.now c.args.copies.now c.requires.room
@@ -32,7 +32,7 @@ loop-node-preserved c =
     let values = reads c.args.values.now in
     let core = core_of marks values c.loop-node.node in
     elim c.match-core_literal.branch [
-      | in-Some+in-ok-join_copy w ↦ subst₂ (λ m e. SoFar c.args.making.now m c.args.copies.now (core_of marks values (c.loop-node.node + 1)) e) (sym w.making-is) (sym w.joined-is)
+      | in-Some+in_ok-join_copy w ↦ subst₂ (λ m e. SoFar c.args.making.now m c.args.copies.now (core_of marks values (c.loop-node.node + 1)) e) (sym w.making-is) (sym w.joined-is)
           (so_far_more c.args.making.now c.loop-node.making c.args.copies.now core c.loop-node.joined c.loop-node.invariant w.join_copy.new.making (core_of marks values (c.loop-node.node + 1))
           w.in-Some.literal.code w.copy_of-copy.result w.in_ok-join_copy.field-0
           (core_push marks values c.loop-node.node (c.loop-node.node + 1) (w.in-Some.literal.code ∷ []) (omega arith) w.in-Some.ensures)

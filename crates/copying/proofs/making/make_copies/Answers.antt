@@ -5,7 +5,7 @@ use Rattle.copying.specs.Places.{none, held_in, shown}
 use Rattle.copying.proofs.Entries.{grown_none, grown_length}
 use Rattle.copying.proofs.Passed.{passed_none, passed_all, inputs_low, gate_stopped, going_at, going_skip, wanted_there, going_input, going_gate}
 use Rattle.copying.proofs.making.make_copies.Goals as goal
-use Rattle.copying.proofs.making.make_copies.Goals.{then-is_some, else-is_some, then-node-making, else-node-making+in-ok-copy}
+use Rattle.copying.proofs.making.make_copies.Goals.{then-is_some, else-is_some, then-node-making, else-node-making+in_ok-copy}
 
 pub loop-number-init : goal.loop-number-init
 loop-number-init c = (grown_none c.args.making.now (omega arith), passed_none _ _ _ _ c.args.copies.now refl)
@@ -63,7 +63,7 @@ loop-number-preserved c =
         | then-node-making w' ↦ going_at m₀ part ns (suc l) _ _ _ _ _ next (sym (w.making-is ∙ w'.making-is)) (sym w.copies-is)
             (going_input m₀ part ns l m cs w.put_copy.new.copies c.at.result c.is_some.result w.if-node-making.copy (omega arith) o c.is_some.ensures w.if-is_some.true now_at
             w.put_copy.ensures w.put_copy.auto.copies (omega (arith, G.first_is, w'.if-node-making.true, w.node-then-is_some.ensures)) (ap (λ x. x.code) w'.copy-is ∙ w'.input_copy-copy.ensures))
-        | else-node-making+in-ok-copy w' ↦ going_at m₀ part ns (suc l) _ _ _ _ _ next (sym (w.making-is ∙ w'.making-is)) (sym w.copies-is)
+        | else-node-making+in_ok-copy w' ↦ going_at m₀ part ns (suc l) _ _ _ _ _ next (sym (w.making-is ∙ w'.making-is)) (sym w.copies-is)
             (going_gate m₀ part ns l m cs w.put_copy.new.copies c.at.result c.is_some.result w.if-node-making.copy (omega arith) o c.is_some.ensures w.if-is_some.true now_at
             w.put_copy.ensures w.put_copy.auto.copies w'.copy_gate.new.making c.requires.start c.requires.room c.requires.ascending (omega (arith, G.first_is, w'.if-node-making.false, w.node-then-is_some.ensures)) (omega arith)
             (subst (λ x. GateCopied m w'.copy_gate.new.making cs l x) (sym w'.copy-is) w'.in_ok-copy.ensures))

@@ -16,7 +16,7 @@ use Rattle.halver.proofs.Halver.halve.Goals.{in-NoMove-second, in_default-second
 pub returns-then-ask-eq0 : goal.returns-then-ask-eq0
 returns-then-ask-eq0 g c =
     let q : Query = asked c.args.ask c.args.forced.now (length c.args.range.now) in
-    let m = g.row.S-Searcher.meaning c.args.self.now.below in
+    let m = g.S.Searcher.meaning c.args.self.now.below in
     let both = at_once q.start q.free (length q.forced) (half m q false).outcome (half m q false).need (half m q true) c.args.ask.allowance c.if-ask-eq0.true in
     let all = sym (halves_some m q c.requires.some) in
     record {
@@ -30,12 +30,12 @@ returns-then-ask-eq0 g c =
 pub later-requires : goal.later-requires
 later-requires g c =
     let q : Query = asked c.args.ask c.args.forced.now (length c.args.range.now) in
-    omega (arith, ap steps_of c.half-first.ensures.reply, within (half (g.row.S-Searcher.meaning c.args.self.now.below) q false) (c.args.ask.allowance - 1))
+    omega (arith, ap steps_of c.half-first.ensures.reply, within (half (g.S.Searcher.meaning c.args.self.now.below) q false) (c.args.ask.allowance - 1))
 
 pub returns-in_default : goal.returns-in_default
 returns-in_default g c =
     let q : Query = asked c.args.ask c.args.forced.now (length c.args.range.now) in
-    let m = g.row.S-Searcher.meaning c.args.self.now.below in
+    let m = g.S.Searcher.meaning c.args.self.now.below in
     let s = c.half-first.ensures in
     let one : c.args.ask.allowance ≡ 1 + (c.args.ask.allowance - 1) = omega arith in
     let first : Shown (half m q false) (c.args.ask.allowance - 1) q.free (length q.forced) c.half-first.result c.half-first.new.range c.half-first.new.marks =
@@ -56,7 +56,7 @@ take_over-requires g c = omega (arith, ap length c.requires.unmarked, length-rep
 pub half-second-requires : goal.half-second-requires
 half-second-requires g c =
     let q : Query = asked c.args.ask c.args.forced.now (length c.args.range.now) in
-    let m = g.row.S-Searcher.meaning c.args.self.now.below in
+    let m = g.S.Searcher.meaning c.args.self.now.below in
     let s = c.in-NoMove.ensures in
     let long : length c.half-first.new.range ≡ length c.args.range.now = omega arith in
     record {
@@ -77,7 +77,7 @@ join_to-requires g c =
 pub returns : goal.returns
 returns g c =
     let q : Query = asked c.args.ask c.args.forced.now (length c.args.range.now) in
-    let m = g.row.S-Searcher.meaning c.args.self.now.below in
+    let m = g.S.Searcher.meaning c.args.self.now.below in
     let s = c.in-NoMove.ensures in
     let t = c.half-second.ensures in
     let one : c.args.ask.allowance ≡ 1 + (c.args.ask.allowance - 1) = omega arith in

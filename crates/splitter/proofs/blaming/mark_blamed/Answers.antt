@@ -1,4 +1,4 @@
-use Rattle.std.proofs.Common.{◌≡◌, ◌+◌, ◌-◌, ◌/◌, ◌<◌, ◌≤◌, true, false, cond, length, get_or, set, replicate, sym, refl, ap, ◌∙◌, arith}
+use Rattle.std.proofs.Common.{◌≡◌, ◌+◌, ◌-◌, ◌/◌, ◌<◌, ◌≤◌, true, false, cond, length, get_or, set, replicate, sym, refl, ap, ◌∙◌, arith, rules}
 use Rattle.std.proofs.lemmas.List.{length-take, get_or-take}
 use Rattle.valuation.specs.Circuit.{lit, reads}
 use Rattle.valuation.specs.Sweep.{marked}
@@ -8,7 +8,6 @@ use Rattle.splitting.specs.Blame.{passes}
 use Rattle.splitting.specs.Worklist.{seen_count, noted}
 use Rattle.splitting.proofs.Working.{seen_count_none}
 use Rattle.splitting.proofs.Marking.{blaming_start, blaming_ready, blaming_same, blaming_forced, blaming_input, blaming_gate, blaming_inside, blaming_listed, blaming_end}
-use Rattle.splitter.proofs.Single.{differs, same}
 use Rattle.splitter.proofs.blaming.mark_blamed.Goals as goal
 use Rattle.splitter.proofs.blaming.mark_blamed.Goals.{then-ne, else-ne+then-node-first, else-ne+else-node-first}
 
@@ -59,19 +58,19 @@ loop-done-preserved c =
     let inside : node < first + length gates = omega (arith, c.loop-done.invariant.1 less) in
     blaming_ready first gs F v root c.requires.ascending (omega arith) (omega arith) _ _ _ _ _ _ _ (omega arith)
     (elim c.if-ne.branch [
-      | then-ne w ↦ blaming_same first gs F v root w.marks-is w.seen-is w.order-is w.count_is
-          (blaming_forced first gs F v root c.args.marks.now c.loop-done.marks c.loop-done.seen order c.loop-done.count done b node refl less room (differs w.if-ne.ensures) (omega arith))
+      | then-ne w ↦ blaming_same first gs F v root w.marks-is w.seen-is w.order-is w.count-is
+          (blaming_forced first gs F v root c.args.marks.now c.loop-done.marks c.loop-done.seen order c.loop-done.count done b node refl less room (let h = w.if-ne.ensures in search rules) (omega arith))
       | else-ne+then-node-first w ↦
           let k : node - first < length gates = omega (arith, w.if-node-first.true) in
           let g = pair_at gates (node - first) empty k in
           let r = reads_below gates first (node - first) (length c.loop-done.seen) empty c.requires.ascending k (omega arith) in
-          blaming_same first gs F v root w.marks-is w.seen-is w.order-is w.count_is
-          (blaming_gate first gs F v root c.args.marks.now c.loop-done.marks c.loop-done.seen order c.loop-done.count done b node refl less room (node - first) (omega (arith, w.if-node-first.true)) (same w.if-ne.ensures)
+          blaming_same first gs F v root w.marks-is w.seen-is w.order-is w.count-is
+          (blaming_gate first gs F v root c.args.marks.now c.loop-done.marks c.loop-done.seen order c.loop-done.count done b node refl less room (node - first) (omega (arith, w.if-node-first.true)) (let h = w.if-ne.ensures in search rules)
           (omega (arith, ap (λ q. q.left) g, r.0), omega (arith, ap (λ q. q.right) g, r.1)) w.pass_on-count.new.seen w.pass_on-count.new.order w.pass_on-count.result
           (w.pass_on-count.ensures.seen ∙ ap (λ q. marked (passes (v node) (lit v q.left) q) c.loop-done.seen) (sym g))
           (w.pass_on-count.ensures.order ∙ ap (λ q. noted (passes (v node) (lit v q.left) q) c.loop-done.seen order) (sym g)) w.pass_on-count.ensures.counted)
-      | else-ne+else-node-first w ↦ blaming_same first gs F v root w.marks-is w.seen-is w.order-is w.count_is
-          (blaming_input first gs F v root c.args.marks.now c.loop-done.marks c.loop-done.seen order c.loop-done.count done b node refl less room (same w.if-ne.ensures) w.if-node-first.false)
+      | else-ne+else-node-first w ↦ blaming_same first gs F v root w.marks-is w.seen-is w.order-is w.count-is
+          (blaming_input first gs F v root c.args.marks.now c.loop-done.marks c.loop-done.seen order c.loop-done.count done b node refl less room (let h = w.if-ne.ensures in search rules) w.if-node-first.false)
     ])
 
 pub forget-requires : goal.forget-requires

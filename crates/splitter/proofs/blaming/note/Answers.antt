@@ -11,14 +11,14 @@ returns-then-seen-node c = record {
   counted = c.requires.counted;
 }
 
-pub offset-bounds-order-count : goal.offset-bounds-order-count
-offset-bounds-order-count c = omega (arith, seen_count_less c.args.seen.now c.args.node c.requires.inside c.if-seen-node.false)
+pub offset_bounds-order-count : goal.offset_bounds-order-count
+offset_bounds-order-count c = omega (arith, seen_count_less c.args.seen.now c.args.node c.requires.inside c.if-seen-node.false)
 
 pub bounds-order-count : goal.bounds-order-count
 bounds-order-count c = omega (arith, seen_count_less c.args.seen.now c.args.node c.requires.inside c.if-seen-node.false)
 
-pub overflow-add-result : goal.overflow-add-result
-overflow-add-result c = omega (arith, seen_count_less c.args.seen.now c.args.node c.requires.inside c.if-seen-node.false)
+pub overflow_add-result : goal.overflow_add-result
+overflow_add-result c = omega (arith, seen_count_less c.args.seen.now c.args.node c.requires.inside c.if-seen-node.false)
 
 pub returns : goal.returns
 returns c = record {

@@ -1,4 +1,4 @@
-use Rattle.std.proofs.Common.{◌≡◌, ◌+◌, ◌-◌, map, length, take, drop, sym, refl, ap, ◌∙◌, subst, inl, inr, arith, length-set}
+use Rattle.std.proofs.Common.{◌≡◌, ◌+◌, ◌-◌, map, length, take, drop, sym, refl, ap, ◌∙◌, subst, inl, inr, arith, rules, length-set}
 use Rattle.circuit.proofs.Records.{length_pairs}
 use Rattle.search.specs.Queries.{Query, Sound}
 use Rattle.search.specs.Asking.{asked}
@@ -45,7 +45,7 @@ returns-then-eq t c =
     let s = settings_at c.args.ask.start (length c.args.range.now - c.args.unset) c.args.values.now in
     let w = c.root_value-root.ensures in
     let e = ended_lost q c.requires.sound c.args.unset s c.args.ask.allowance c.args.marks.now (omega arith) c.args.values.now c.root_value-root.new.values c.root_value-root.result
-    c.requires.stands w.value w.walked w.inputs c.if-eq.ensures c.mark.new.marks c.mark.ensures in
+    c.requires.stands w.value w.walked w.inputs (let h = c.if-eq.ensures in search rules) c.mark.new.marks c.mark.ensures in
     record {
       reply = e.reply;
       range = c.requires.unset ∙ e.range;
@@ -63,8 +63,8 @@ returns-then-eq-2 t c =
     let e = ended_moved q c.requires.sound c.args.unset s c.args.ask.allowance c.args.marks.now (omega arith) c.args.values.now c.root_value-root.new.values c.root_value-root.result
     c.requires.stands w.value w.walked w.inputs
     (elim c.then-eq-2.branch [
-      | then-eq-2-via-then-eq-2 x ↦ inl x.if-eq-2.ensures
-      | then-eq-2-via-else-eq-2+then-unset-eq0 x ↦ inr (unknown_left c.root_value-root.result c.if-eq.ensures x.if-eq-2.ensures, x.if-unset-eq0.true)
+      | then-eq-2-via-then-eq-2 x ↦ inl (let h = x.if-eq-2.ensures in search rules)
+      | then-eq-2-via-else-eq-2+then-unset-eq0 x ↦ inr (unknown_left c.root_value-root.result (let h = c.if-eq.ensures in search rules) (let h = x.if-eq-2.ensures in search rules), x.if-unset-eq0.true)
     ])
     c.write_setting.new.range (omega arith)
     (c.write_setting.ensures ∙ ap (λ n. map settled (take n (drop c.args.ask.start c.root_value-root.new.values))) (let e : c.args.ask.start + free - c.args.ask.start ≡ free = omega arith in e)) in
@@ -86,7 +86,7 @@ branch-low-requires t c =
     let old = c.args.marks.now in
     let r = c.root_value-root.ensures in
     let stands = first_asked ask forced free k before values ask.allowance old c.root_value-root.result
-    c.requires.sound c.requires.stands r.value r.inputs c.if-eq.ensures c.if-eq-2.ensures c.requires.fits c.if-unset-eq0.false c.if-ask-eq0.false c.requires.markable in (
+    c.requires.sound c.requires.stands r.value r.inputs (let h = c.if-eq.ensures in search rules) (let h = c.if-eq-2.ensures in search rules) c.requires.fits c.if-unset-eq0.false c.if-ask-eq0.false c.requires.markable in (
       let m : k ≡ t = c.decreases in omega (arith, c.if-unset-eq0.false),
       (c.requires.sound, (stands, (omega arith, (simp length-set (c.root_value-root.auto.values ∙ c.requires.valued), (c.requires.unset, c.requires.markable))))),
     )
@@ -102,7 +102,7 @@ returns-in_default-low t c =
     let old = c.args.marks.now in
     let r = c.root_value-root.ensures in
     let e = node_first ask forced free k before values ask.allowance old c.root_value-root.result
-    c.requires.sound c.requires.stands r.value r.inputs c.if-eq.ensures c.if-eq-2.ensures c.requires.fits c.if-unset-eq0.false c.if-ask-eq0.false c.requires.markable
+    c.requires.sound c.requires.stands r.value r.inputs (let h = c.if-eq.ensures in search rules) (let h = c.if-eq-2.ensures in search rules) c.requires.fits c.if-unset-eq0.false c.if-ask-eq0.false c.requires.markable
     c.branch-low.result c.branch-low.new.range c.branch-low.new.marks c.branch-low.new.values
     c.branch-low.ensures.reply c.in_default-low.not-NoMove c.branch-low.ensures.range c.later.result c.later.ensures in
     record {
@@ -122,17 +122,17 @@ branch-high-requires t c =
     let values = c.root_value-root.new.values in
     let old = c.args.marks.now in
     let r = c.root_value-root.ensures in
-    let m = c.in-NoMove-low.spent in
-    let low = c.in-NoMove-low.ensures in
+    let m = c.in_NoMove-low.spent in
+    let low = c.in_NoMove-low.ensures in
     let middle = c.branch-low.new.marks in
     let last = c.branch-low.new.values in
     let room = length c.branch-low.new.range in
     let whole : room ≡ free = c.branch-low.auto.range in
     let stands = second_asked ask forced free k before values ask.allowance old c.root_value-root.result
-    c.requires.sound c.requires.stands r.value r.inputs c.if-eq.ensures c.if-eq-2.ensures c.requires.fits c.if-unset-eq0.false c.if-ask-eq0.false c.requires.markable
+    c.requires.sound c.requires.stands r.value r.inputs (let h = c.if-eq.ensures in search rules) (let h = c.if-eq-2.ensures in search rules) c.requires.fits c.if-unset-eq0.false c.if-ask-eq0.false c.requires.markable
     m middle last low.reply (low.marks m refl) (low.inputs m refl) room whole in
     let unset = second_unset ask forced free k before values ask.allowance old c.root_value-root.result
-    c.requires.sound c.requires.stands r.value r.inputs c.if-eq.ensures c.if-eq-2.ensures c.requires.fits c.if-unset-eq0.false c.if-ask-eq0.false c.requires.markable
+    c.requires.sound c.requires.stands r.value r.inputs (let h = c.if-eq.ensures in search rules) (let h = c.if-eq-2.ensures in search rules) c.requires.fits c.if-unset-eq0.false c.if-ask-eq0.false c.requires.markable
     m middle last low.reply (low.marks m refl) (low.inputs m refl) room whole in (
       let z : k ≡ t = c.decreases in omega (arith, c.if-unset-eq0.false),
       (
@@ -160,15 +160,15 @@ returns t c =
     let values = c.root_value-root.new.values in
     let old = c.args.marks.now in
     let r = c.root_value-root.ensures in
-    let m = c.in-NoMove-low.spent in
-    let low = c.in-NoMove-low.ensures in
+    let m = c.in_NoMove-low.spent in
+    let low = c.in_NoMove-low.ensures in
     let middle = c.branch-low.new.marks in
     let last = c.branch-low.new.values in
     let room = length c.branch-low.new.range in
     let whole : room ≡ free = c.branch-low.auto.range in
     let h = c.branch-high.ensures in
     let e = node_second ask forced free k before values ask.allowance old c.root_value-root.result
-    c.requires.sound c.requires.stands r.value r.inputs c.if-eq.ensures c.if-eq-2.ensures c.requires.fits c.if-unset-eq0.false c.if-ask-eq0.false c.requires.markable
+    c.requires.sound c.requires.stands r.value r.inputs (let h = c.if-eq.ensures in search rules) (let h = c.if-eq-2.ensures in search rules) c.requires.fits c.if-unset-eq0.false c.if-ask-eq0.false c.requires.markable
     m middle last low.reply (low.marks m refl) (low.inputs m refl) room whole
     c.branch-high.result c.branch-high.new.range c.branch-high.new.marks c.branch-high.new.values h.reply h.range h.marks h.inputs c.later-2.result c.later-2.ensures in
     record {

@@ -29,24 +29,24 @@ branch-reply-requires c =
       markable = ap length c.requires.unmarked ∙ length-replicate (length c.args.forced.now) false;
     }
 
-pub returns-in-NoMove-reply : goal.returns-in-NoMove-reply
-returns-in-NoMove-reply c =
+pub returns-in_NoMove-reply : goal.returns-in_NoMove-reply
+returns-in_NoMove-reply c =
     let q : Query = asked c.args.ask c.args.forced.now (length c.args.range.now) in
     let values = c.set_inputs.new.inputs ++ post_of 0 (1 + c.args.ask.variables - 0) c.args.values.now in
     let free = length c.args.range.now in
     let size = length c.args.forced.now in
     let n = c.args.ask.allowance in
-    let m = c.in-NoMove-reply.field-0 in
+    let m = c.in_NoMove-reply.field-0 in
     let start = start_settings q values in
     let e = c.branch-reply.ensures in
     let reply : c.branch-reply.result ≡ reply_of (splits q) n = e.reply ∙ ap (λ s. reply_of (tree q free s) n) start in
-    let no_move = sym reply ∙ c.in-NoMove-reply.is in
+    let no_move = sym reply ∙ c.in_NoMove-reply.is in
     let l = no_move_says (splits q) n m no_move in
     let long : length (core_of (splits q).outcome size) ≡ size = ap (λ o. length (core_of o size)) l.loss ∙ length_lost q free [] l.core l.loss ∙ sym c.requires.sound.covered in
     record {
       reply = reply;
       range = e.range ∙ ap (λ s. range_after (tree q free s) n free) start;
-      marks = e.marks m c.in-NoMove-reply.is ∙ ap (λ s. join c.args.marks.now (core_of (tree q free s).outcome size)) start
+      marks = e.marks m c.in_NoMove-reply.is ∙ ap (λ s. join c.args.marks.now (core_of (tree q free s).outcome size)) start
           ∙ ap (λ xs. join xs (core_of (splits q).outcome size)) c.requires.unmarked ∙ join_none (core_of (splits q).outcome size) size long ∙ sym (marks_no_move (splits q) n m size no_move);
     }
 

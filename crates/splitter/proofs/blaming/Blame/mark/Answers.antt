@@ -19,11 +19,9 @@ mark_blamed-requires c =
     }
 
 pub invariant_of-self : goal.invariant_of-self
-invariant_of-self c = (
-  with_items_is c.args.self.now.seen c.mark_blamed.new.seen (c.mark_blamed.auto.seen ∙ c.deref_mut.ensures.len) ∙ c.mark_blamed.ensures.clear ∙ c.deref_mut.ensures.value ∙ c.args.self.now.clear,
-  (
-    ap length (with_items_is c.args.self.now.order c.mark_blamed.new.order (c.mark_blamed.auto.order ∙ c.deref_mut-2.ensures.len)) ∙ c.mark_blamed.auto.order
-        ∙ ap length c.deref_mut-2.ensures.value ∙ c.args.self.now.room,
-    tt,
-  ),
-)
+invariant_of-self c = record {
+  clear = with_items_is c.args.self.now.seen c.mark_blamed.new.seen (c.mark_blamed.auto.seen ∙ c.deref_mut.ensures.len) ∙ c.mark_blamed.ensures.clear ∙ c.deref_mut.ensures.value ∙ c.args.self.now.clear;
+  room =
+      ap length (with_items_is c.args.self.now.order c.mark_blamed.new.order (c.mark_blamed.auto.order ∙ c.deref_mut-2.ensures.len)) ∙ c.mark_blamed.auto.order
+      ∙ ap length c.deref_mut-2.ensures.value ∙ c.args.self.now.room;
+}
