@@ -1,5 +1,5 @@
 -- What judging bytes gives: the formula that they encode, or the first rule that they break.
-use Rattle.std.specs.Prelude.{◌≡◌, ℕ, zero, suc, ◌+◌, List, [], ◌∷◌, ◌++◌, length, drop, Some, Ok, Err, Result}
+use Rattle.std.specs.Prelude.{◌≡◌, ℕ, zero, suc, List, [], ◌∷◌, ◌++◌, length, drop, Some, Ok, Err, Result}
 use Rattle.valuation.specs.Circuit.{Pair}
 use Rattle.circuit.specs.declared.Literal.{Literal}
 use Rattle.question.specs.declared.prefix.Block.{Block}

@@ -1,7 +1,6 @@
 -- The walk's laws at the kind with one case, where a value means itself.
-use Rattle.std.proofs.Common.{◌≡◌, ℕ, ◌+◌, ◌-◌, ◌/◌, ◌<◌, ◌≤◌, Bool, true, false, cond, not, List, map, length, take, sym, ap, ◌∙◌, ap₂, arith}
+use Rattle.std.proofs.Common.{◌≡◌, ℕ, ◌+◌, ◌-◌, ◌/◌, ◌<◌, ◌≤◌, List, map, length, take, sym, ap, ◌∙◌, ap₂, arith}
 use Rattle.std.proofs.lemmas.List.{map-id, length-take-le, take-take}
-use Rattle.std.proofs.lemmas.Bool.{true≢false, false≢true}
 use Rattle.valuation.specs.declared.Value.{Value}
 use Rattle.valuation.specs.Circuit.{Values, lit, reads, values_of}
 use Rattle.valuation.proofs.Computed.{values_start}

@@ -1,6 +1,6 @@
-use Rattle.std.proofs.Common.{◌≡◌, ◌-◌, false, ◌&&◌, eqb, [], ◌∷◌, sym, refl, ap, ◌∙◌, subst, arith, rules}
+use Rattle.std.proofs.Common.{◌≡◌, ◌-◌, false, ◌&&◌, eqb, [], ◌∷◌, sym, ap, ◌∙◌, subst, arith, rules}
 use Rattle.std.proofs.lemmas.Result.{MatchResult-weaker}
-use Rattle.std.proofs.lemmas.Bool.{and_left, and_right, ne_eqb, false≢true}
+use Rattle.std.proofs.lemmas.Bool.{and_left, and_right}
 use Rattle.copying.specs.Gates.{gate_in}
 use Rattle.copying.specs.Table.{Grown}
 use Rattle.copying.proofs.Up.{gate_is, place_low, same_copied, new_copied, new_stopped}
