@@ -6,4 +6,4 @@ pub invariant_of-self : goal.invariant_of-self
 invariant_of-self c =
     let m = c.args.self.now in
     let e = with_items_is m.marks c.clear_from.new.cells (c.clear_from.auto.cells ∙ c.deref_mut.ensures.len) in
-    (omega arith, (e ∙ c.clear_from.ensures ∙ ap (λ k. replicate (k - 0) false) c.deref_mut.ensures.len, tt))
+    record { room = omega arith; clear = e ∙ c.clear_from.ensures ∙ ap (λ k. replicate (k - 0) false) c.deref_mut.ensures.len }

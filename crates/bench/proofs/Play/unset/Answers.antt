@@ -10,7 +10,7 @@ pub invariant_of-self : goal.invariant_of-self
 invariant_of-self c =
     let p = c.args.self.now in
     let e = with_items_is p.values c.clear_from.new.cells (c.clear_from.auto.cells ∙ c.deref_mut.ensures.len) in
-    (omega (arith, c.requires, p.room), (cleared_rest Unknown c.deref_mut.result.now _ c.args.from p.values.len (e ∙ c.clear_from.ensures) (omega (arith, c.requires, p.room, c.deref_mut.ensures.len)) c.deref_mut.ensures.len, tt))
+    record { room = omega (arith, c.requires, p.room); unset = cleared_rest Unknown c.deref_mut.result.now _ c.args.from p.values.len (e ∙ c.clear_from.ensures) (omega (arith, c.requires, p.room, c.deref_mut.ensures.len)) c.deref_mut.ensures.len }
 
 pub returns : goal.returns
 returns c =

@@ -40,12 +40,12 @@ ask_level-reply-requires g c =
 pub invariant_of-values : goal.invariant_of-values
 invariant_of-values g c =
     let v = c.args.values.now in
-    (with_items_is v.values c.ask_level-reply.new.values (c.ask_level-reply.auto.values ∙ c.deref_mut-2.ensures.len) ∙ c.ask_level-reply.ensures.values ∙ c.deref_mut-2.ensures.value ∙ v.zero, tt)
+    record { zero = with_items_is v.values c.ask_level-reply.new.values (c.ask_level-reply.auto.values ∙ c.deref_mut-2.ensures.len) ∙ c.ask_level-reply.ensures.values ∙ c.deref_mut-2.ensures.value ∙ v.zero }
 
 pub invariant_of-forced : goal.invariant_of-forced
 invariant_of-forced g c =
     let v = c.args.forced.now in
-    (with_items_is v.values c.ask_level-reply.new.forced (c.ask_level-reply.auto.forced ∙ c.deref_mut-3.ensures.len) ∙ c.ask_level-reply.ensures.forced ∙ c.deref_mut-3.ensures.value ∙ v.zero, tt)
+    record { zero = with_items_is v.values c.ask_level-reply.new.forced (c.ask_level-reply.auto.forced ∙ c.deref_mut-3.ensures.len) ∙ c.ask_level-reply.ensures.forced ∙ c.deref_mut-3.ensures.value ∙ v.zero }
 
 pub invariant_of-play : goal.invariant_of-play
 invariant_of-play g c =
@@ -59,14 +59,13 @@ invariant_of-play g c =
     played_by (asked_of l gs xs) l.allowance l.below l.free p.set p.bound xs refl c.requires.set (omega (arith, long, c.requires.inside, c.requires.play))
     (ap (drop p.set) c.deref_mut.ensures.value ∙ p.unset ∙ ap (λ n. replicate (n - p.set) Unknown) (sym long)) r c.ask_level-reply.ensures.right in
     let e = with_items_is p.values c.ask_level-reply.new.play (c.ask_level-reply.auto.play ∙ long) in
-    let n : c.if_move.result ≡ move_or_zero (reply_for r) l.free = c.if_move.ensures ∙ ap (λ a. move_or_zero a l.free) c.ask_level-reply.ensures.reply in (
-      omega (arith, k.room, n, long),
-      (
-        ap (drop (l.below + c.if_move.result)) (e ∙ c.ask_level-reply.ensures.play) ∙ ap (λ j. drop (l.below + j) (play_for l.below r xs)) n ∙ k.unset
-            ∙ ap₂ (λ j i. replicate (j - (l.below + i)) Unknown) long (sym n),
-        tt,
-      ),
-    )
+    let n : c.if_move.result ≡ move_or_zero (reply_for r) l.free = c.if_move.ensures ∙ ap (λ a. move_or_zero a l.free) c.ask_level-reply.ensures.reply in
+    record {
+      room = omega (arith, k.room, n, long);
+      unset =
+          ap (drop (l.below + c.if_move.result)) (e ∙ c.ask_level-reply.ensures.play) ∙ ap (λ j. drop (l.below + j) (play_for l.below r xs)) n ∙ k.unset
+          ∙ ap₂ (λ j i. replicate (j - (l.below + i)) Unknown) long (sym n);
+    }
 
 pub invariant_of-marks : goal.invariant_of-marks
 invariant_of-marks g c =
@@ -84,7 +83,7 @@ invariant_of-marks g c =
     (ap (drop m.shown) c.deref_mut-4.ensures.value ∙ m.clear ∙ ap (λ n. replicate (n - m.shown) false) (sym long)) r c.ask_level-reply.ensures.right in
     let e = with_items_is m.marks c.ask_level-reply.new.marks (c.ask_level-reply.auto.marks ∙ long) in
     let n : c.if_no_move-marks.result ≡ no_move_or_zero (reply_for r) (t.first + t.used) = c.if_no_move-marks.ensures ∙ ap (λ a. no_move_or_zero a (t.first + t.used)) c.ask_level-reply.ensures.reply in
-    (omega (arith, k.room, n, long), (ap (drop c.if_no_move-marks.result) (e ∙ c.ask_level-reply.ensures.marks) ∙ ap (λ j. drop j (marks_over r ms)) n ∙ k.clear ∙ ap₂ (λ j i. replicate (j - i) false) long (sym n), tt))
+    record { room = omega (arith, k.room, n, long); clear = ap (drop c.if_no_move-marks.result) (e ∙ c.ask_level-reply.ensures.marks) ∙ ap (λ j. drop j (marks_over r ms)) n ∙ k.clear ∙ ap₂ (λ j i. replicate (j - i) false) long (sym n) }
 
 pub returns : goal.returns
 returns g c =
