@@ -8,8 +8,8 @@ ghost use Rattle.circuit.specs.Gates.{pairs};
 ghost use Rattle.question.specs.Blocks.{total};
 ghost use Rattle.valuation.specs.declared.Value.TheVariants.{Unknown};
 ghost use Rattle.valuation.specs.Circuit.{Ascending};
-ghost use Rattle.runs.specs.State.{before as variables-before};
-ghost use Rattle.runs.specs.State.{width as block-width};
+ghost use Rattle.runs.specs.State.{before as variables_before};
+ghost use Rattle.runs.specs.State.{width as block_width};
 ghost use Rattle.copying.specs.Places.{none};
 ghost use Rattle.copying.specs.Table.{BlankFrom};
 ghost use Rattle.runs.specs.Turn.{values_under, cut_list};
@@ -41,7 +41,7 @@ pub fn clear_from<T: Copy>(cells: &mut [T], from: usize, used: usize, blank: T)
 // How many variables the first blocks have.
 pub fn before(blocks: &[Block], depth: usize) -> usize
     requires { total blocks.now ≤ 128 }
-    ensures { result ≡ variables-before blocks.now depth }
+    ensures { result ≡ variables_before blocks.now depth }
 {
     let mut sum = 0;
     for block in &blocks[0..depth.min(blocks.len())] {
@@ -52,7 +52,7 @@ pub fn before(blocks: &[Block], depth: usize) -> usize
 
 // How many variables a block has, counted from 0: none past the last.
 pub fn width(blocks: &[Block], depth: usize) -> usize
-    ensures { result ≡ block-width blocks.now depth }
+    ensures { result ≡ block_width blocks.now depth }
 {
     match blocks.get(depth) {
         Some(block) => block.size,

@@ -10,7 +10,7 @@ use Rattle.valuation.specs.Rails.{is_false}
 use Rattle.valuation.specs.Circuit.{Values, gate, negated, signed, reads, settings_from, Valuation, Reached, at_root, by_left, by_right}
 use Rattle.valuation.specs.Reach.{reach}
 use Rattle.valuation.proofs.Order.{known, forced_known, forced_unknown}
-use Rattle.valuation.proofs.Nodes.{nodes as each-node, half, both_same}
+use Rattle.valuation.proofs.Nodes.{nodes as each_node, half, both_same}
 use Rattle.valuation.proofs.Computed.{equations_hold}
 use Rattle.valuation.proofs.Cut.{reach_exact, reached_inside}
 use Rattle.search.specs.Queries.{Query, Sound, nodes, values_under, root_under, Refuted}
@@ -68,7 +68,7 @@ module _ (q : Query) (sound : Sound q) where
   -- so every reached node has the same value with only the core forced
   reached_same : (s : List Value) (n : ℕ) → n < nodes q → Reached (1 + q.variables) q.gates all (q.root / 2) n → values_under q all s n ≡ values_under q some s n
   reached_same s =
-      each-node first q.gates (λ n. Reached first q.gates all (q.root / 2) n → values_under q all s n ≡ values_under q some s n)
+      each_node first q.gates (λ n. Reached first q.gates all (q.root / 2) n → values_under q all s n ≡ values_under q some s n)
       (λ n i r. one n _ _ r (X.inputs n i) (Y.inputs n i) (λ u. refl))
       (λ k i h r. one (first + k) _ _ r (X.gates k i) (Y.gates k i)
       (λ u. both_same (values_under q all s) (values_under q some s) (gate q.gates k) (h _ (half _ _ (sound.ascending k i).0) (by_left k i u r)) (h _ (half _ _ (sound.ascending k i).1) (by_right k i u r))))

@@ -5,7 +5,7 @@
 ghost use Rattle.std.specs.Prelude.{◌≡◌, ℕ, ◌+◌, ◌*◌, ◌/◌, ◌<◌, ◌≤◌, true, false, length, get_or, replicate, if◌then◌else◌, slice_index, slice_index_or, slice_set};
 ghost use Rattle.circuit.specs.Gates.{pair, pairs};
 ghost use Rattle.splitting.specs.Blame.{passes, core};
-ghost use Rattle.splitting.specs.Blame.{cause as cause-by};
+ghost use Rattle.splitting.specs.Blame.{cause as cause_by};
 ghost use Rattle.splitting.specs.Tree.{join};
 ghost use Rattle.splitting.specs.Worklist.{seen_count, noted};
 ghost use Rattle.valuation.specs.Circuit.{Ascending, lit, reads};
@@ -49,7 +49,7 @@ fn note(node: usize, count: usize, seen: &mut [bool], order: &mut [usize]) -> us
 // The input that makes a gate false: the left one if that is false, else the right one.
 fn cause(gate: Gate, values: &[Value]) -> usize
     requires { (pair gate).left < 2 * length values.now }
-    ensures { result ≡ cause-by (lit (reads values.now) (pair gate).left) (pair gate) }
+    ensures { result ≡ cause_by (lit (reads values.now) (pair gate).left) (pair gate) }
 {
     match literal_value(values, gate.left()) {
         Value::False => gate.left().node(),

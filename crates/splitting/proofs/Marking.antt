@@ -117,7 +117,7 @@ module _ (first : ℕ) (gs : List Pair) (F v : Values) (root : ℕ) where
   -- the root is noted first
   pub blaming_start : (size : ℕ) (old : List Bool) (order order' : List ℕ) (seen' : List Bool) (count : ℕ) → root < size → size ≤ length order → seen' ≡ set (replicate size false) root true →
       order' ≡ cond (get_or (replicate size false) root false) order (set order 0 root) → count ≡ seen_count seen' → Blaming first gs F v root old old seen' order' count 0
-  blaming_start size old order order' seen' count inside room seen-is order_is counted =
+  blaming_start size old order order' seen' count inside room seen_is order_is counted =
       let none = replicate size false in
       let long = length-replicate size false in
       let same : cond (get_or none root false) order (set order (seen_count none) root) ≡ order' = ap (λ n. cond (get_or none root false) order (set order n root)) (seen_count_none size) ∙ sym order_is in
@@ -125,8 +125,8 @@ module _ (first : ℕ) (gs : List Pair) (F v : Values) (root : ℕ) where
       record {
         counted = counted;
         before = omega arith;
-        begun = rw seen-is (noted.all root (inl refl));
-        working = working_same (blames first gs F v) (root ∷ []) 0 (sym seen-is) same noted.working;
+        begun = rw seen_is (noted.all root (inl refl));
+        working = working_same (blames first gs F v) (root ∷ []) 0 (sym seen_is) same noted.working;
         marking = record { kept = λ n o. o; new = λ i h. absurd (let z : ⊥ = omega arith in z); only = λ n o. inl o };
       }
     where
@@ -157,9 +157,9 @@ module _ (first : ℕ) (gs : List Pair) (F v : Values) (root : ℕ) where
       -- a node that passes the blame on, to nodes that are noted then
       passed : (ns : List ℕ) → blames first gs F v node ≡ ns → ((m : ℕ) → In m ns → m < length seen) → (seen' : List Bool) (order' : List ℕ) (count' : ℕ) (marks' : List Bool) →
           seen' ≡ marked ns seen → order' ≡ noted ns seen order → count' ≡ seen_count seen' → Marking F (blames first gs F v) (root ∷ []) old marks' order' (done + 1) → Blaming first gs F v root old marks' seen' order' count' (done + 1)
-      passed ns leads fits seen' order' count' marks' seen-is order_is counted marking =
+      passed ns leads fits seen' order' count' marks' seen_is order_is counted marking =
           let one = one_done (blames first gs F v) (root ∷ []) seen order done node is (λ m i. fits m (subst (In m) leads i)) room (omega (arith, b.counted)) b.working in
-          let seen_same : marked (blames first gs F v node) seen ≡ seen' = ap (λ xs. marked xs seen) leads ∙ sym seen-is in
+          let seen_same : marked (blames first gs F v node) seen ≡ seen' = ap (λ xs. marked xs seen) leads ∙ sym seen_is in
           let order_same : noted (blames first gs F v node) seen order ≡ order' = ap (λ xs. noted xs seen order) leads ∙ sym order_is in
           record {
             counted = counted;
@@ -185,12 +185,12 @@ module _ (first : ℕ) (gs : List Pair) (F v : Values) (root : ℕ) where
       pub blaming_gate : (k : ℕ) → node ≡ first + k → F node ≡ Unknown → ((gate gs k).left / 2 < length seen) × ((gate gs k).right / 2 < length seen) → (seen' : List Bool) (order' : List ℕ) (count' : ℕ) →
           seen' ≡ marked (passes (v node) (lit v (gate gs k).left) (gate gs k)) seen → order' ≡ noted (passes (v node) (lit v (gate gs k).left) (gate gs k)) seen order → count' ≡ seen_count seen' →
           Blaming first gs F v root old marks seen' order' count' (done + 1)
-      blaming_gate k at free inside seen' order' count' seen-is order_is counted =
+      blaming_gate k at free inside seen' order' count' seen_is order_is counted =
           let ns = passes (v node) (lit v (gate gs k).left) (gate gs k) in
           let leads : blames first gs F v node ≡ ns = ap (blames first gs F v) at ∙ blames_gate first gs F v k (ap F (sym at) ∙ free) ∙ ap (λ n. passes (v n) (lit v (gate gs k).left) (gate gs k)) (sym at) in
           let fits : (m : ℕ) → In m ns → m < length seen = λ m i. elim (passes_inputs (v node) (lit v (gate gs k).left) (gate gs k) m i) [ inl e ↦ omega (arith, inside.0) | inr e ↦ omega (arith, inside.1) ] in
           let noting = notes_keep (blames first gs F v) (root ∷ []) ns seen order done (λ m i. (fits m i, go node m (subst (From (blames first gs F v) (root ∷ [])) is (blaming_way less)) (subst (In m) (sym leads) i))) room (omega (arith, b.counted)) b.working in
-          passed ns leads fits seen' order' count' marks seen-is order_is counted
+          passed ns leads fits seen' order' count' marks seen_is order_is counted
           (marking_past F (blames first gs F v) (root ∷ []) old marks order done node is order' (λ i h. ap (λ xs. get_or xs i 0) order_is ∙ noting.front i (omega (arith, b.counted))) free b.marking)
 
   -- what a loop has of it before it goes on: there is room, and the next node is one of the circuit

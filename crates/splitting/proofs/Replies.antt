@@ -29,21 +29,21 @@ pub record Lost (a : Answer) (n m : ℕ) : Type 0 where
   pub cost : a.need ≡ m
   pub within : m ≤ n
 
-move≢no-move : (m n : ℕ) → Move m ≡ NoMove n → ⊥
-move≢no-move m n e = let z : ◌≡◌ {A = ℕ} 0 1 = cc in omega arith
+move≢no_move : (m n : ℕ) → Move m ≡ NoMove n → ⊥
+move≢no_move m n e = let z : ◌≡◌ {A = ℕ} 0 1 = cc in omega arith
 
-spent≢no-move : (n : ℕ) → Spent ≡ NoMove n → ⊥
-spent≢no-move n e = let z : ◌≡◌ {A = ℕ} 0 1 = cc in omega arith
+spent≢no_move : (n : ℕ) → Spent ≡ NoMove n → ⊥
+spent≢no_move n e = let z : ◌≡◌ {A = ℕ} 0 1 = cc in omega arith
 
 pub no_move_says : (a : Answer) (n m : ℕ) → reply_of a n ≡ NoMove m → Lost a n m
 no_move_says a n m e =
     elim (cases_lt n a.need) [
-      | inl h ↦ absurd (spent≢no-move m (sym (reply_spent a n h) ∙ e))
+      | inl h ↦ absurd (spent≢no_move m (sym (reply_spent a n h) ∙ e))
       | inr h ↦ pick a.outcome refl h
     ]
   where
     pick : (o : Outcome) → a.outcome ≡ o → a.need ≤ n → Lost a n m
-    pick (moves s) is h = absurd (move≢no-move a.need m (sym (reply_paid a n h ∙ ap (λ o. paid o a.need) is) ∙ e))
+    pick (moves s) is h = absurd (move≢no_move a.need m (sym (reply_paid a n h ∙ ap (λ o. paid o a.need) is) ∙ e))
     pick (loses c) is h =
         let cost : a.need ≡ m = ap steps_of (sym (reply_paid a n h ∙ ap (λ o. paid o a.need) is) ∙ e) in
         record { core = c; loss = is; cost = cost; within = omega arith }

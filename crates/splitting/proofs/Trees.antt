@@ -181,8 +181,8 @@ module _ (q : Query) (sound : Sound q) where
 
   -- a core among others
   wider : (c d : List Bool) (t : List Bool) → length t ≡ q.free → length d ≡ nodes q → ((n : ℕ) → get_or c n false ≡ true → get_or d n false ≡ true) → Refuted q (only c F) t → Refuted q (only d F) t
-  wider c d t long size in-d r =
-      stays_refuted q sound (only c F) (only d F) (map of_bool t) (map of_bool t) (λ n h. among n (get_or c n false) (get_or d n false) (in-d n)) (λ n h. only_below d F n)
+  wider c d t long size in_d r =
+      stays_refuted q sound (only c F) (only d F) (map of_bool t) (map of_bool t) (λ n h. among n (get_or c n false) (get_or d n false) (in_d n)) (λ n h. only_below d F n)
       (λ k. below_same _ _ refl) (omega (arith, length-map t of_bool)) r
     where
       among : (n : ℕ) (x y : Bool) → (x ≡ true → y ≡ true) → Below (cond x (F n) Unknown) (cond y (F n) Unknown)
