@@ -183,7 +183,7 @@ module _ (ask : Ask) (forced : List Value) (free k : ℕ) (before values : List 
   -- what is known before the first call
   module _ (sound : Sound asks) (stands : Stands asks here before) (value : root ≡ lit (reads (values_of asks.gates (reads forced) (take (1 + ask.variables) before))) asks.root)
       (kept : take (1 + ask.variables) values ≡ take (1 + ask.variables) before) (not_false : root ≢ False) (not_true : root ≢ True) (fits : k ≤ free) (left : k ≢ 0) (some : n ≢ 0)
-      (MarkedAll : length old ≡ length forced) where
+      (marked_all : length old ≡ length forced) where
     long : length here + k ≡ free
     long = omega (arith, length_settings asks sound here (free - k) before (omega arith) stands)
 
@@ -200,7 +200,7 @@ module _ (ask : Ask) (forced : List Value) (free k : ℕ) (before values : List 
     unknown = sym (value ∙ ap (λ vs. lit (reads (values_of asks.gates (reads forced) vs)) asks.root) stands) ∙ unknown_left root not_false not_true
 
     size : length old ≡ nodes asks
-    size = MarkedAll ∙ sound.covered
+    size = marked_all ∙ sound.covered
 
     -- the settings of the first child
     first_stands : Stands asks (here ++ (false ∷ [])) (set values next False)
