@@ -8,7 +8,7 @@ ghost use Rattle.search.specs.Queries.{Sound};
 ghost use Rattle.search.specs.Asking.{asked};
 ghost use Rattle.search.specs.Answers.{reply_of, range_after, marks_after};
 ghost use Rattle.halving.specs.Halving.{half as half_of, halves, joined};
-ghost use Rattle.halving.specs.Replies.{later as laterOf, steps_of};
+ghost use Rattle.halving.specs.Replies.{later as later_of, steps_of};
 ghost use Rattle.halving.proofs.Halved.{halves_keep};
 
 use search::{Ask, Reply, Searcher};
@@ -61,7 +61,7 @@ impl Aside {
 // The reply, with some steps more.
 fn later(steps: u64, reply: Reply) -> Reply
     requires { steps + steps_of reply < 2 ^ 64 }
-    ensures { result ≡ laterOf steps reply }
+    ensures { result ≡ later_of steps reply }
 {
     match reply {
         Reply::Move(need) => Reply::Move(steps + need),
