@@ -1,5 +1,5 @@
 -- What a turn makes of a reply. Assumes nothing.
-use Rattle.std.proofs.Common.{◌≡◌, ℕ, suc, ◌+◌, ◌≤◌, Bool, true, ◌&&◌, List, take, Some, None, Ok, Err, vec_items, Option, sym, refl, ap, ◌∙◌, subst, ap₂}
+use Rattle.std.proofs.Common.{◌≡◌, ℕ, suc, ◌≤◌, Bool, true, ◌&&◌, List, Some, None, Ok, Err, vec_items, Option, sym, refl, ap, ◌∙◌, subst, ap₂}
 use Rattle.std.proofs.lemmas.List.{take-map}
 use Rattle.std.proofs.lemmas.Bool.{and_from, cond-true}
 use Rattle.circuit.specs.Gates.{pair}
@@ -13,6 +13,7 @@ use Rattle.search.specs.declared.Reply.{Reply}
 use Rattle.search.specs.declared.Reply.TheVariants.{Move, NoMove, Spent}
 use Rattle.search.specs.Queries.{Query}
 use Rattle.search.specs.Answers.{Outcome, moves, loses, Answer}
+use Rattle.asking.specs.declared.Level.{Level}
 use Rattle.asking.specs.Asked.{reply_for}
 use Rattle.runs.specs.declared.Phase.TheVariants.{Playing, Lost}
 use Rattle.runs.specs.declared.Desk.{Desk}
@@ -20,15 +21,14 @@ use Rattle.runs.specs.declared.Stub.{Stub}
 use Rattle.runs.specs.declared.Refusal.TheVariants as refusal
 use Rattle.runs.specs.Refusals.{answered, unless}
 use Rattle.runs.specs.Papers.{stub_of, ticket_present}
-use Rattle.runs.specs.State.{GateSheet, Sheet, Sheets, State, before, width, root_at, own}
+use Rattle.runs.specs.State.{Sheet, Sheets, State, before, width, root_at, own}
 use Rattle.runs.specs.Turn.{level_query, query_of, within, reply_by, paid, answer_desk, answer_sheets, spent_by, after_reply, turn_refusal, turned}
 use Rattle.runs.specs.Calls.{RightReply}
 use Rattle.bench.specs.declared.GateTable.{GateTable}
 use Rattle.bench.specs.declared.Lists.{Lists}
 use Rattle.bench.specs.declared.Ticket.{Ticket}
-use Rattle.bench.specs.declared.Turned.TheVariants as outcome
 use Rattle.bench.specs.Model.{gate_sheet, sheets_of, state_of}
-use Rattle.bench.specs.Turning.{level_of, asked_over, reply_over, play_outcome, play_reply, marks_outcome, marks_reply}
+use Rattle.bench.specs.Turning.{level_of, asked_over, reply_over, play_outcome, play_reply, marks_outcome, marks_reply, paper_of}
 
 -- a bench's numbers after a reply
 abbrev pub reply_desk : Option Answer → Desk → Desk
@@ -106,6 +106,28 @@ module _ (p : Stub) (s : State) (present : ticket_present s.desk p ≡ true) (mi
       ap (λ (t : Sheets). record { blocks = s.blocks; count = s.count; output = s.output; desk = reply_desk (Some a) s.desk; gates = s.gates; sheets = t }) (tables_are a.outcome (before s.blocks s.desk.depth))
       ∙ sym (ap (λ x. unless x s (after_reply (Some a) s)) (refusal_is (Some a)))
 
+  -- the bench and the tables after a reply, where they are these parts
+  pub after_is : (r : Option Answer) (d : Desk) (play values forced : Sheet Value) (marks : Sheet Bool) → d ≡ reply_desk r s.desk → play ≡ play_reply (before s.blocks s.desk.depth) r s.sheets.play →
+      values ≡ s.sheets.values → forced ≡ s.sheets.forced → marks ≡ marks_reply r s.sheets.marks → with_parts d play values forced marks ≡ turned p r s
+  after_is r d play values forced marks desk_is play_is values_is forced_is marks_is =
+      ap (λ x. with_parts x play values forced marks) desk_is
+      ∙ ap (λ x. with_parts (reply_desk r s.desk) x values forced marks) play_is
+      ∙ ap (λ x. with_parts (reply_desk r s.desk) (play_reply (before s.blocks s.desk.depth) r s.sheets.play) x forced marks) values_is
+      ∙ ap (λ x. with_parts (reply_desk r s.desk) (play_reply (before s.blocks s.desk.depth) r s.sheets.play) s.sheets.values x marks) forced_is
+      ∙ ap (λ x. with_parts (reply_desk r s.desk) (play_reply (before s.blocks s.desk.depth) r s.sheets.play) s.sheets.values s.sheets.forced x) marks_is
+      ∙ turned_is r
+
+  -- an accepted turn leaves the paper of its numbers
+  pub answer_is : (r : Option Answer) (need : ℕ) (d : Desk) (t : Ticket) → Accepted p s r need d →
+      Ok (paper_of d.phase (stub_of d)) ≡ answered (turn_refusal p r s) t (paper_of (turned p r s).desk.phase (stub_of (turned p r s).desk))
+  answer_is r need d t a =
+      ap (λ (k : Desk). Ok (paper_of k.phase (stub_of k))) (sym a.desk ∙ ap (λ (x : State). x.desk) (turned_is r))
+      ∙ ap (λ x. answered x t (paper_of (turned p r s).desk.phase (stub_of (turned p r s).desk))) (sym a.refusal)
+
+  -- a spent turn gives the ticket back
+  pub spent_answer : (r : Option Answer) (t : Ticket) → r ≡ None → Err (refusal.Spent, t) ≡ answered (turn_refusal p r s) t (paper_of (turned p r s).desk.phase (stub_of (turned p r s).desk))
+  spent_answer r t none = sym (ap (λ x. answered x t (paper_of (turned p r s).desk.phase (stub_of (turned p r s).desk))) (refusal_is r ∙ ap spent_by none))
+
 -- the reply over the tables is the one of the definition, and right
 module _ (m : Query → Answer) (f : Frame) (d : Desk) (g : GateTable) (l : Lists) where
   abbrev s : State
@@ -119,3 +141,20 @@ module _ (m : Query → Answer) (f : Frame) (d : Desk) (g : GateTable) (l : List
 
   pub right_is : RightReply (asked_over (level_of f d) g l.play) d.purse (reply_over m (level_of f d) g l.play) → RightReply (query_of s) d.purse (reply_by m s)
   right_is = subst (λ (gs : List Pair). RightReply (by_gates gs) d.purse (within d.purse (m (by_gates gs)))) (sym (take-map pair g.used (vec_items g.gates)))
+
+  -- what a turn knows after it asked at its level
+  module _ (k : Level) (level : k ≡ level_of f d) where
+    pub here_is : reply_over m k g l.play ≡ reply_by m s
+    here_is = ap (λ (j : Level). reply_over m j g l.play) level ∙ reply_is
+
+    pub right_here : RightReply (asked_over k g l.play) k.allowance (reply_over m k g l.play) → RightReply (query_of s) d.purse (reply_by m s)
+    right_here right = right_is (subst (λ (j : Level). RightReply (asked_over j g l.play) j.allowance (reply_over m j g l.play)) level right)
+
+    pub replied : (r : Reply) → r ≡ reply_for (reply_over m k g l.play) → reply_for (reply_by m s) ≡ r
+    replied r e = sym (e ∙ ap reply_for here_is)
+
+    pub play_here : play_reply k.below (reply_over m k g l.play) s.sheets.play ≡ play_reply (before s.blocks s.desk.depth) (reply_by m s) s.sheets.play
+    play_here = ap₂ (λ n r. play_reply n r s.sheets.play) (ap (λ (j : Level). j.below) level) here_is
+
+    pub marks_here : marks_reply (reply_over m k g l.play) s.sheets.marks ≡ marks_reply (reply_by m s) s.sheets.marks
+    marks_here = ap (λ r. marks_reply r s.sheets.marks) here_is

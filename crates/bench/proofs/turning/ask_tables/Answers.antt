@@ -2,7 +2,7 @@ use Rattle.std.proofs.Common.{◌≡◌, ℕ, ◌+◌, ◌-◌, Bool, false, Lis
 use Rattle.std.proofs.lemmas.List.{with_items_is, length-take-le, length-map, take-map}
 use Rattle.valuation.specs.declared.Value.{Value}
 use Rattle.valuation.specs.declared.Value.TheVariants.{Unknown}
-use Rattle.valuation.specs.Circuit.{Ascending, Pair}
+use Rattle.valuation.specs.Circuit.{Ascending}
 use Rattle.circuit.specs.declared.Gate.{Gate}
 use Rattle.circuit.specs.Gates.{pair, pairs}
 use Rattle.search.specs.Answers.{Answer}

@@ -1,12 +1,12 @@
 -- What a reply leaves in the play and the marks. Assumes nothing.
-use Rattle.std.proofs.Common.{◌≡◌, ℕ, ◌+◌, ◌-◌, ◌≤◌, Bool, false, List, ◌++◌, map, length, take, drop, replicate, Some, None, Option, sym, refl, ap, ◌∙◌, add-zero, zero-add, arith}
+use Rattle.std.proofs.Common.{◌≡◌, ℕ, ◌+◌, ◌-◌, ◌≤◌, Bool, false, List, map, length, drop, replicate, Some, None, Option, sym, refl, ap, ◌∙◌, arith}
 use Rattle.std.proofs.lemmas.List.{length-map, drop-drop, drop-replicate}
 use Rattle.valuation.specs.declared.Value.{Value}
 use Rattle.valuation.specs.declared.Value.TheVariants.{Unknown}
 use Rattle.valuation.specs.Three.{of_bool}
 use Rattle.search.specs.Queries.{Query, nodes}
 use Rattle.search.specs.Answers.{Outcome, moves, loses, Answer, Right}
-use Rattle.asking.specs.Asked.{reply_for, play_by, play_for, marks_in, marks_over}
+use Rattle.asking.specs.Asked.{reply_for, play_for, marks_over}
 use Rattle.runs.specs.State.{Sheet}
 use Rattle.runs.specs.Turn.{with_part}
 use Rattle.runs.specs.Calls.{RightReply}

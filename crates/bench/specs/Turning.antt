@@ -1,7 +1,6 @@
 -- What a turn asks, what it needs of the tables, and what it answers.
-use Rattle.std.specs.Prelude.{◌≡◌, ℕ, suc, ◌+◌, ◌/◌, ◌<◌, ◌≤◌, Bool, List, length, take, Some, None, vec_items, vec_len, Option, Result, slice_index_or}
+use Rattle.std.specs.Prelude.{◌≡◌, ℕ, suc, ◌+◌, ◌/◌, ◌<◌, ◌≤◌, Bool, take, Some, None, vec_items, vec_len, Option, Result, slice_index_or}
 use Rattle.valuation.specs.declared.Value.{Value}
-use Rattle.circuit.specs.declared.Gate.{Gate}
 use Rattle.question.specs.declared.frame.Frame.{Frame}
 use Rattle.question.specs.Blocks.{total}
 use Rattle.question.specs.Rules.{blocks_of}
@@ -25,7 +24,6 @@ use Rattle.bench.specs.declared.Play.{Play}
 use Rattle.bench.specs.declared.ValueList.{ValueList}
 use Rattle.bench.specs.declared.Marks.{Marks}
 use Rattle.bench.specs.declared.Ticket.{Ticket}
-use Rattle.bench.specs.declared.Slip.{Slip}
 use Rattle.bench.specs.declared.Turned.{Turned}
 use Rattle.bench.specs.declared.Turned.TheVariants as outcome
 

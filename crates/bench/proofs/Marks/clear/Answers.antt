@@ -1,4 +1,4 @@
-use Rattle.std.proofs.Common.{◌≡◌, ◌-◌, false, replicate, ap, ◌∙◌, arith}
+use Rattle.std.proofs.Common.{◌-◌, false, replicate, ap, ◌∙◌, arith}
 use Rattle.std.proofs.lemmas.List.{with_items_is}
 use Rattle.bench.proofs.Marks.clear.Goals as goal
 

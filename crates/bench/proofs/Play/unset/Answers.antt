@@ -1,8 +1,7 @@
-use Rattle.std.proofs.Common.{◌≡◌, ◌-◌, List, ◌++◌, length, take, replicate, sym, ap, ◌∙◌, arith}
+use Rattle.std.proofs.Common.{◌-◌, List, ◌++◌, length, take, replicate, ap, ◌∙◌, arith}
 use Rattle.std.proofs.lemmas.List.{with_items_is}
 use Rattle.valuation.specs.declared.Value.{Value}
 use Rattle.valuation.specs.declared.Value.TheVariants.{Unknown}
-use Rattle.runs.specs.State.{Sheet}
 use Rattle.bench.proofs.Lent.{cleared_rest}
 use Rattle.bench.proofs.Play.unset.Goals as goal
 

@@ -47,9 +47,10 @@ pub(super) fn has_slip(desk: &Desk, stub: Stub) -> bool
 
 // The numbers after a turn that was paid for.
 pub(super) fn paid(desk: Desk, phase: Phase, depth: usize, need: u64) -> Desk
+    requires some { 1 ≤ need }
     requires covered { need ≤ desk.purse }
-    requires turns { desk.turns < 2 ^ 64 - 1 }
-    requires steps { desk.steps + need < 2 ^ 64 }
+    requires paid { desk.turns ≤ desk.steps }
+    requires balanced { desk.purse + desk.steps ≡ desk.grants }
     ensures { result ≡ paid_desk phase depth need desk }
 {
     Desk {
