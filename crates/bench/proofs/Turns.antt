@@ -1,5 +1,5 @@
 -- What a turn makes of a reply. Assumes nothing.
-use Rattle.std.proofs.Common.{◌≡◌, ℕ, suc, ◌≤◌, Bool, true, ◌&&◌, List, Some, None, Ok, Err, vec_items, Option, sym, refl, ap, ◌∙◌, subst, ap₂}
+use Rattle.std.proofs.Common.{◌≡◌, ℕ, suc, ◌≤◌, Bool, true, ◌&&◌, List, length, Some, None, Ok, Err, vec_items, Option, sym, refl, ap, ◌∙◌, subst, ap₂}
 use Rattle.std.proofs.lemmas.List.{take-map}
 use Rattle.std.proofs.lemmas.Bool.{and_from, cond-true}
 use Rattle.circuit.specs.Gates.{pair}
@@ -24,6 +24,7 @@ use Rattle.runs.specs.Papers.{stub_of, ticket_present}
 use Rattle.runs.specs.State.{Sheet, Sheets, State, before, width, root_at, own}
 use Rattle.runs.specs.Turn.{level_query, query_of, within, reply_by, paid, answer_desk, answer_sheets, spent_by, after_reply, turn_refusal, turned}
 use Rattle.runs.specs.Calls.{RightReply}
+use Rattle.bench.proofs.Owned.{owned}
 use Rattle.bench.specs.declared.GateTable.{GateTable}
 use Rattle.bench.specs.declared.Lists.{Lists}
 use Rattle.bench.specs.declared.Ticket.{Ticket}
@@ -142,19 +143,48 @@ module _ (m : Query → Answer) (f : Frame) (d : Desk) (g : GateTable) (l : List
   pub right_is : RightReply (asked_over (level_of f d) g l.play) d.purse (reply_over m (level_of f d) g l.play) → RightReply (query_of s) d.purse (reply_by m s)
   right_is = subst (λ (gs : List Pair). RightReply (by_gates gs) d.purse (within d.purse (m (by_gates gs)))) (sym (take-map pair g.used (vec_items g.gates)))
 
-  -- what a turn knows after it asked at its level
-  module _ (k : Level) (level : k ≡ level_of f d) where
-    pub here_is : reply_over m k g l.play ≡ reply_by m s
-    here_is = ap (λ (j : Level). reply_over m j g l.play) level ∙ reply_is
+-- What a turn knows once it has asked: the ticket is present and the tables are the bench's own, at the level k the searcher gave this reply, and it is right.
+pub record Asked (m : Query → Answer) (f : Frame) (d : Desk) (g : GateTable) (l : Lists) (p : Stub) (k : Level) (reply : Reply) : Type 0 where
+  pub present : ticket_present d p ≡ true
+  pub mine : own (state_of f d (gate_sheet g) (sheets_of l)) ≡ true
+  pub level : k ≡ level_of f d
+  pub right : RightReply (asked_over k g l.play) k.allowance (reply_over m k g l.play)
+  pub reply_is : reply ≡ reply_for (reply_over m k g l.play)
 
-    pub right_here : RightReply (asked_over k g l.play) k.allowance (reply_over m k g l.play) → RightReply (query_of s) d.purse (reply_by m s)
-    right_here right = right_is (subst (λ (j : Level). RightReply (asked_over j g l.play) j.allowance (reply_over m j g l.play)) level right)
+-- What becomes of it: the reply by the definition, and the play and the marks after it.
+module _ (m : Query → Answer) (f : Frame) (d : Desk) (g : GateTable) (l : Lists) (p : Stub) (k : Level) (reply : Reply) (a : Asked m f d g l p k reply) where
+  abbrev at : State
+  at = state_of f d (gate_sheet g) (sheets_of l)
 
-    pub replied : (r : Reply) → r ≡ reply_for (reply_over m k g l.play) → reply_for (reply_by m s) ≡ r
-    replied r e = sym (e ∙ ap reply_for here_is)
+  pub here_is : reply_over m k g l.play ≡ reply_by m at
+  here_is = ap (λ (j : Level). reply_over m j g l.play) a.level ∙ reply_is m f d g l
 
-    pub play_here : play_reply k.below (reply_over m k g l.play) s.sheets.play ≡ play_reply (before s.blocks s.desk.depth) (reply_by m s) s.sheets.play
-    play_here = ap₂ (λ n r. play_reply n r s.sheets.play) (ap (λ (j : Level). j.below) level) here_is
+  right_here : RightReply (query_of at) d.purse (reply_by m at)
+  right_here = right_is m f d g l (subst (λ (j : Level). RightReply (asked_over j g l.play) j.allowance (reply_over m j g l.play)) a.level a.right)
 
-    pub marks_here : marks_reply (reply_over m k g l.play) s.sheets.marks ≡ marks_reply (reply_by m s) s.sheets.marks
-    marks_here = ap (λ r. marks_reply r s.sheets.marks) here_is
+  replied : reply_for (reply_by m at) ≡ reply
+  replied = sym (a.reply_is ∙ ap reply_for here_is)
+
+  pub after_move : (need : ℕ) → reply ≡ Move need → Accepted p at (reply_by m at) need (paid Playing (suc d.depth) need d)
+  after_move need e = moved p at a.present a.mine (reply_by m at) need (replied ∙ e) right_here
+
+  pub after_loss : (need : ℕ) → reply ≡ NoMove need → Accepted p at (reply_by m at) need (paid Lost d.depth need d)
+  after_loss need e = lost p at a.present a.mine (reply_by m at) need (replied ∙ e) right_here
+
+  pub no_answer : reply ≡ Spent → reply_by m at ≡ None
+  no_answer e = spent_is p at a.present a.mine (reply_by m at) (replied ∙ e)
+
+  -- a spent turn gives the ticket back
+  pub ticket_back : reply ≡ Spent → (t : Ticket) → Err (refusal.Spent, t) ≡ answered (turn_refusal p (reply_by m at) at) t (paper_of (turned p (reply_by m at) at).desk.phase (stub_of (turned p (reply_by m at) at).desk))
+  ticket_back e t = spent_answer p at a.present a.mine (reply_by m at) t (no_answer e)
+
+  -- the bench is at the level of a block, or past the last
+  pub inside : d.depth ≤ length (blocks_of f.prefix)
+  inside = (owned at a.mine).level
+
+  -- the bench and the tables after the reply, where the searcher left these tables and the numbers are d'
+  pub after_asking : (d' : Desk) (play values forced : Sheet Value) (marks : Sheet Bool) → d' ≡ reply_desk (reply_by m at) d → play ≡ play_reply k.below (reply_over m k g l.play) at.sheets.play →
+      values ≡ at.sheets.values → forced ≡ at.sheets.forced → marks ≡ marks_reply (reply_over m k g l.play) at.sheets.marks → with_parts p at a.present a.mine d' play values forced marks ≡ turned p (reply_by m at) at
+  after_asking d' play values forced marks desk_is play_is values_is forced_is marks_is =
+      after_is p at a.present a.mine (reply_by m at) d' play values forced marks desk_is
+      (play_is ∙ ap₂ (λ n r. play_reply n r at.sheets.play) (ap (λ (j : Level). j.below) a.level) here_is) values_is forced_is (marks_is ∙ ap (λ r. marks_reply r at.sheets.marks) here_is)
