@@ -39,24 +39,15 @@ pub struct Lost<'a> {
 }
 
 // The new root, and how many gates were made.
-#[derive(Clone, Copy)]
+#[derive(Clone, Copy, PartialEq, Eq, Debug)]
 pub struct Settled {
     pub root: Literal,
     pub made: usize,
 }
 
 // The gates exceed the free entries.
-#[derive(Clone, Copy)]
+#[derive(Clone, Copy, PartialEq, Eq, Debug)]
 pub struct Full;
-
-// Takes all copies out of their list.
-fn clear(copies: &mut [Copies])
-    ensures { copies.new ≡ replicate (length copies.old) none }
-{
-    for entry in copies.iter_mut() {
-        *entry = Copies::NONE;
-    }
-}
 
 // Settles a lost turn: its gates stand after the `used` ones, or the table is as it was if they do not fit. `first` is the first gate's node.
 pub fn settle(
@@ -81,8 +72,8 @@ pub fn settle(
     ensures work { copies.new ≡ copies.old }
 {
     let nodes = first + used;
-    let outcome = write_gates(gates, used, first, lost, &mut copies[0..nodes]);
-    clear(&mut copies[0..nodes]);
+    let outcome = write_gates(gates, used, first, lost, &mut copies[..nodes]);
+    copies[..nodes].fill(Copies::NONE);
     outcome
 }
 

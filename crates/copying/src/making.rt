@@ -25,17 +25,6 @@ struct Making<'a> {
     made: usize,
 }
 
-// Sets `count` entries to zero, from `from` on.
-fn wipe(gates: &mut [Gate], from: usize, count: usize)
-    requires { from + count ≤ length gates.old }
-    ensures { pairs gates.new ≡ written (pairs gates.old) from (replicate count blank) }
-{
-    let zero = Literal::new(0);
-    for k in 0..count {
-        gates[from + k] = Gate::new(zero, zero);
-    }
-}
-
 impl Drop for Making<'_> {
     fn drop(self)
         requires { self.used + self.made ≤ length self.gates.now }
@@ -47,7 +36,7 @@ impl Drop for Making<'_> {
             used,
             made,
         } = self;
-        wipe(gates, used, made);
+        gates[used..used + made].fill(Gate::free());
     }
 }
 
@@ -204,16 +193,13 @@ fn join_core(
         (λ _. CoreStopped making.old making.new copies.now (core_of (λ n. slice_index_or core.now n false) (reads values.now) (length copies.now))) }
 {
     let mut joined = None;
-    for node in 0..copies.len() {
-        if let Some(literal) = core_literal(core, values, node) {
+    for (node, in_core) in core[..copies.len()].iter().enumerate() {
+        if let Some(literal) = core_literal(node, *in_core, values[node]) {
             let copy = copy_of(copies, literal, flipped(literal));
             joined = Some(join_copy(making, joined, copy)?);
         }
     }
-    match joined {
-        Some(literal) => Ok(literal),
-        None => Ok(Literal::new(1)),
-    }
+    Ok(joined.unwrap_or(Literal::new(1)))
 }
 
 // The gate of a new root: the old one and not the joined copies.
@@ -264,7 +250,7 @@ pub(super) fn write_gates(
     ensures table { pairs gates.new ≡ table_after first (pairs gates.old) used lost.entry }
 {
     need_core(lost.core, lost.values, copies);
-    need_inputs(&gates[0..used], first, copies);
+    need_inputs(&gates[..used], first, copies);
     let mut making = Making {
         gates,
         first,

@@ -105,24 +105,19 @@ pub(super) fn copy_of(copies: &[Copies], literal: Literal, place: Literal) -> Li
     requires { place.code / 2 < length copies.now }
     ensures { result.code ≡ like literal.code (copy_code copies.now place.code) }
 {
-    let copy = match copies[place.node()].at(place) {
-        Some(copy) => copy,
-        None => Literal::new(0),
-    };
-    flipped_by(copy, literal)
+    let copy = copies[place.node()].at(place);
+    flipped_by(copy.unwrap_or(Literal::new(0)), literal)
 }
 
 // The literal of a node that its value makes true, if the node is of the core.
-pub(super) fn core_literal(core: &[bool], values: &[Value], node: usize) -> Option<Literal>
-    requires core { node < length core.now }
-    requires values { node < length values.now }
-    requires small { node < 32768 }
-    ensures { listed result ≡ (if slice_index_or core.now node false then literal_for (reads values.now node) node else []) }
+pub(super) fn core_literal(node: usize, in_core: bool, value: Value) -> Option<Literal>
+    requires { node < 32768 }
+    ensures { listed result ≡ (if in_core then literal_for value node else []) }
 {
-    if !core[node] {
+    if !in_core {
         return None;
     }
-    match values[node] {
+    match value {
         Value::Unknown => None,
         Value::False => Some(Literal::new((2 * node + 1) as u16)),
         Value::True => Some(Literal::new((2 * node) as u16)),
@@ -144,8 +139,8 @@ pub(super) fn need_core(core: &[bool], values: &[Value], copies: &mut [Copies])
     requires small { length copies.old ≤ 32768 }
     ensures { shown copies.new ≡ marked (map opposite (core_of (λ n. slice_index_or core.now n false) (reads values.now) (length copies.old))) (shown copies.old) }
 {
-    for node in 0..copies.len() {
-        if let Some(literal) = core_literal(core, values, node) {
+    for (node, in_core) in core[..copies.len()].iter().enumerate() {
+        if let Some(literal) = core_literal(node, *in_core, values[node]) {
             need(copies, flipped(literal));
         }
     }

@@ -1,4 +1,4 @@
-use Rattle.std.proofs.Common.{◌≡◌, ℕ, ◌+◌, ◌-◌, List, ◌++◌, length, take, drop, replicate, sym, ap, ◌∙◌, arith}
+use Rattle.std.proofs.Common.{◌≡◌, ℕ, ◌+◌, List, ◌++◌, length, take, drop, replicate, sym, refl, ap, ◌∙◌, arith, rules}
 use Rattle.std.proofs.lemmas.List.{drop_at, take_at, take-append-drop, length-take-le}
 use Rattle.copying.specs.Places.{none}
 use Rattle.copying.proofs.settle.Goals as goal
@@ -15,6 +15,6 @@ returns c =
     record {
       answer = c.write_gates-outcome.ensures.answer;
       table = c.write_gates-outcome.ensures.table;
-      work = filled_again none n (n - 0) c.args.copies.now c.write_gates-outcome.new.copies c.clear.new.copies (omega arith)
-          (c.write_gates-outcome.auto.copies ∙ length-take-le (n - 0) c.args.copies.now (omega arith)) c.requires.clear c.clear.ensures;
+      work = filled_again none n n c.args.copies.now c.write_gates-outcome.new.copies c.fill.new.self refl
+          (c.write_gates-outcome.auto.copies ∙ length-take-le n c.args.copies.now (omega arith)) c.requires.clear (c.fill.ensures.after (λ y h. search rules));
     }

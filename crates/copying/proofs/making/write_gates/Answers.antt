@@ -1,4 +1,4 @@
-use Rattle.std.proofs.Common.{◌≡◌, ◌+◌, ◌-◌, ◌≤◌, length, take, sym, refl, ap, ◌∙◌, subst, arith, rules}
+use Rattle.std.proofs.Common.{◌≡◌, ◌+◌, ◌≤◌, length, sym, refl, ap, ◌∙◌, subst, arith, rules}
 use Rattle.std.proofs.lemmas.Result.{err_from_is_err_and}
 use Rattle.std.proofs.lemmas.List.{length-replicate, length-take-le}
 use Rattle.circuit.specs.Gates.{pairs}
@@ -16,12 +16,11 @@ need_core-requires c =
 pub need_inputs-requires : goal.need_inputs-requires
 need_inputs-requires c =
     let gs = c.args.gates.now in
-    let u : c.args.used - 0 ≡ c.args.used = omega arith in
     let l = ap length c.requires.clear ∙ length-replicate (c.args.first + c.args.used) none in
     let k = c.need_core.auto.copies in
     record {
-      ascending = subst (Ascending c.args.first) (sym (pairs_take (c.args.used - 0) gs ∙ ap (λ n. take n (pairs gs)) u)) c.requires.ascending;
-      nodes = omega (arith, length-take-le (c.args.used - 0) gs (omega arith));
+      ascending = subst (Ascending c.args.first) (sym (pairs_take c.args.used gs)) c.requires.ascending;
+      nodes = omega (arith, length-take-le c.args.used gs (omega arith));
       small = omega arith;
     }
 
@@ -48,9 +47,8 @@ drop-making-requires c =
     let t = c.args.lost in
     let k = c.need_core.auto.copies in
     let j = c.need_inputs.auto.copies in
-    let u : c.args.used - 0 ≡ c.args.used = omega arith in
     let room : c.args.used ≤ length (pairs gs) = omega (arith, length_pairs gs) in
-    let old = pairs_take (c.args.used - 0) gs ∙ ap (λ n. take n (pairs gs)) u in
+    let old = pairs_take c.args.used gs in
     let long : length c.need_inputs.new.copies ≡ c.args.first + c.args.used = j ∙ k ∙ ap length c.requires.clear ∙ length-replicate (c.args.first + c.args.used) none in
     let shows = needs_shown c.args.first c.args.used gs t c.args.copies.now c.need_core.new.copies c.need_inputs.new.copies _ old (ap length old ∙ length-take-le c.args.used (pairs gs) room) c.requires.clear
     c.need_core.ensures c.need_inputs.ensures k in
@@ -62,9 +60,8 @@ returns-in_err-root c =
     let t = c.args.lost in
     let k = c.need_core.auto.copies in
     let j = c.need_inputs.auto.copies in
-    let u : c.args.used - 0 ≡ c.args.used = omega arith in
     let room : c.args.used ≤ length (pairs gs) = omega (arith, length_pairs gs) in
-    let old = pairs_take (c.args.used - 0) gs ∙ ap (λ n. take n (pairs gs)) u in
+    let old = pairs_take c.args.used gs in
     let long : length c.need_inputs.new.copies ≡ c.args.first + c.args.used = j ∙ k ∙ ap length c.requires.clear ∙ length-replicate (c.args.first + c.args.used) none in
     let shows = needs_shown c.args.first c.args.used gs t c.args.copies.now c.need_core.new.copies c.need_inputs.new.copies _ old (ap length old ∙ length-take-le c.args.used (pairs gs) room) c.requires.clear
     c.need_core.ensures c.need_inputs.ensures k in
@@ -83,9 +80,8 @@ returns c =
     let t = c.args.lost in
     let k = c.need_core.auto.copies in
     let j = c.need_inputs.auto.copies in
-    let u : c.args.used - 0 ≡ c.args.used = omega arith in
     let room : c.args.used ≤ length (pairs gs) = omega (arith, length_pairs gs) in
-    let old = pairs_take (c.args.used - 0) gs ∙ ap (λ n. take n (pairs gs)) u in
+    let old = pairs_take c.args.used gs in
     let long : length c.need_inputs.new.copies ≡ c.args.first + c.args.used = j ∙ k ∙ ap length c.requires.clear ∙ length-replicate (c.args.first + c.args.used) none in
     let shows = needs_shown c.args.first c.args.used gs t c.args.copies.now c.need_core.new.copies c.need_inputs.new.copies _ old (ap length old ∙ length-take-le c.args.used (pairs gs) room) c.requires.clear
     c.need_core.ensures c.need_inputs.ensures k in
