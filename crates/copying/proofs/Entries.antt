@@ -9,8 +9,9 @@ use borrow.Rule.Slice.PartMut.{put_mid}
 use Rattle.circuit.specs.declared.Gate.{Gate}
 use Rattle.circuit.specs.Gates.{empty, pair, pairs}
 use Rattle.valuation.specs.Circuit.{Pair, blank}
-use Rattle.copying.specs.declared.making.Making.{Making}
-use Rattle.copying.specs.Table.{written, BlankFrom, Grown, Stopped}
+use Rattle.copying.specs.declared.guard.Making.{Making}
+use Rattle.copying.specs.Table.{written, BlankFrom}
+use Rattle.copying.specs.Guard.{Grown, Stopped}
 
 module _ (table : List Pair) (from : ℕ) where
   pub written_none : table ≡ written table from []

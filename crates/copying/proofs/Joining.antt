@@ -12,11 +12,11 @@ use Rattle.copies.specs.Make.{fresh, core_copy, Join}
 use Rattle.copies.proofs.Counted.{join_counts}
 use Rattle.copies.proofs.Making.{opposite_half}
 use Rattle.copies.proofs.Passes.{join_next, join_push}
-use Rattle.copying.specs.declared.making.Making.{Making}
+use Rattle.copying.specs.declared.guard.Making.{Making}
 use Rattle.copying.specs.declared.places.Copies.{Copies}
 use Rattle.copying.specs.Gates.{olds, codes, join_gates, join_code, OneJoined, all_joined, CoreJoined, CoreStopped}
 use Rattle.copying.specs.Places.{copy_code}
-use Rattle.copying.specs.Table.{Grown, Stopped}
+use Rattle.copying.specs.Guard.{Grown, Stopped}
 use Rattle.copying.proofs.Entries.{grown_none, grown_more, stopped_after}
 
 -- what is joined of some literals, if there are any

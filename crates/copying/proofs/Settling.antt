@@ -12,14 +12,15 @@ use Rattle.copies.specs.Copy.{opposite}
 use Rattle.copies.specs.Make.{fresh, needs, needed, make, Join, join, joined}
 use Rattle.copies.proofs.Counted.{join_counts}
 use Rattle.copying.specs.declared.Full.{Full}
-use Rattle.copying.specs.declared.Lost.{Lost}
+use Rattle.copying.specs.declared.lost.Lost.{Lost}
 use Rattle.copying.specs.declared.Settled.{Settled}
-use Rattle.copying.specs.declared.making.Making.{Making}
+use Rattle.copying.specs.declared.guard.Making.{Making}
 use Rattle.copying.specs.declared.places.Copies.{Copies}
 use Rattle.copying.specs.Gates.{olds, all_made, AllCopied, all_joined, CoreJoined, CoreStopped}
 use Rattle.copying.specs.Settle.{core_in, parts, new_gates, fits, answer, table_after, joins_of, gates_of, AllMade}
 use Rattle.copying.specs.Places.{none, shown}
-use Rattle.copying.specs.Table.{written, BlankFrom, Grown, Stopped}
+use Rattle.copying.specs.Table.{written, BlankFrom}
+use Rattle.copying.specs.Guard.{Grown, Stopped}
 use Rattle.copying.proofs.Entries.{grown_more, grown_length, stopped_after, stopped_sooner, restored}
 use Rattle.copying.proofs.Held.{none_shown}
 use Rattle.copying.proofs.Joining.{next_literal}

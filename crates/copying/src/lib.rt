@@ -17,8 +17,12 @@ use making::write_gates;
 use places::Copies;
 use valuation::Value;
 
+mod guard;
+mod lost;
 mod making;
 pub mod places;
+
+pub use lost::Lost;
 
 // Where the block below the lost level begins, where the level's own begins, and where that ends, by nodes.
 #[derive(Clone, Copy)]
@@ -26,16 +30,6 @@ pub struct Bounds {
     pub below: usize,
     pub mine: usize,
     pub end: usize,
-}
-
-// A lost turn: the marks of its core, the values under the lower levels' play, the play, the bounds of the blocks, and the root to be replaced.
-#[derive(Clone, Copy)]
-pub struct Lost<'a> {
-    pub core: &'a [bool],
-    pub values: &'a [Value],
-    pub play: &'a [Value],
-    pub bounds: Bounds,
-    pub root: Literal,
 }
 
 // The new root, and how many gates were made.
@@ -63,8 +57,6 @@ pub fn settle(
     requires blank { BlankFrom (pairs gates.old) used }
     requires core { first + used ≤ length lost.core.now }
     requires values { first + used ≤ length lost.values.now }
-    requires below { 1 ≤ lost.bounds.below }
-    requires played { lost.bounds.mine ≤ length lost.play.now + 1 }
     requires work { first + used ≤ length copies.old }
     requires clear { take (first + used) copies.old ≡ replicate (first + used) none }
     ensures answer { result ≡ answer first (pairs gates.old) used lost.entry }

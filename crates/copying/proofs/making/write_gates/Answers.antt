@@ -5,7 +5,7 @@ use Rattle.circuit.specs.Gates.{pairs}
 use Rattle.circuit.proofs.Records.{length_pairs, pairs_take}
 use Rattle.valuation.specs.Circuit.{Ascending}
 use Rattle.copying.specs.Places.{none}
-use Rattle.copying.proofs.Settling.{needs_shown, settled_answer, settled_table, stopped_room, stopped_answer, stopped_table}
+use Rattle.copying.proofs.Settling.{needs_shown, settled_answer, settled_table, stopped_answer, stopped_table}
 use Rattle.copying.proofs.making.write_gates.Goals as goal
 
 pub need_core-requires : goal.need_core-requires
@@ -31,28 +31,11 @@ make_gates-requires c =
     let j = c.need_inputs.auto.copies in
     record {
       start = refl;
-      small = c.requires.small;
-      room = c.requires.used;
       ascending = c.requires.ascending;
       nodes = omega arith;
       core = omega arith;
       values = omega arith;
-      below = c.requires.below;
-      played = c.requires.played;
     }
-
-pub drop-making-requires : goal.drop-making-requires
-drop-making-requires c =
-    let gs = c.args.gates.now in
-    let t = c.args.lost in
-    let k = c.need_core.auto.copies in
-    let j = c.need_inputs.auto.copies in
-    let room : c.args.used ≤ length (pairs gs) = omega (arith, length_pairs gs) in
-    let old = pairs_take c.args.used gs in
-    let long : length c.need_inputs.new.copies ≡ c.args.first + c.args.used = j ∙ k ∙ ap length c.requires.clear ∙ length-replicate (c.args.first + c.args.used) none in
-    let shows = needs_shown c.args.first c.args.used gs t c.args.copies.now c.need_core.new.copies c.need_inputs.new.copies _ old (ap length old ∙ length-take-le c.args.used (pairs gs) room) c.requires.clear
-    c.need_core.ensures c.need_inputs.ensures k in
-    stopped_room _ c.make_gates.new.making t c.need_inputs.new.copies c.args.first c.args.used (pairs gs) refl refl refl refl room long shows c.in_err-root.ensures
 
 pub returns-in_err-root : goal.returns-in_err-root
 returns-in_err-root c =

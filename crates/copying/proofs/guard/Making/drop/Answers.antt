@@ -2,7 +2,7 @@ use Rattle.std.proofs.Common.{◌≡◌, replicate, ◌∙◌, ap₂, arith, rul
 use Rattle.std.proofs.lemmas.List.{length-take, length-drop}
 use Rattle.circuit.specs.Gates.{empty}
 use Rattle.copying.proofs.Entries.{pairs_freed}
-use Rattle.copying.proofs.making.Making.drop.Goals as goal
+use Rattle.copying.proofs.guard.Making.drop.Goals as goal
 
 pub returns : goal.returns
 returns c =
