@@ -16,7 +16,7 @@ use super::places::{
     put_copy,
 };
 use super::{Full, Lost, Settled};
-use circuit::{Gate, Literal};
+use circuit::{Circuit, Gate, Literal};
 use valuation::Value;
 
 impl Making<'_> {
@@ -94,6 +94,7 @@ fn make_copies(making: &mut Making, lost: Lost, copies: &mut [Copies]) -> Result
         (λ _. AllCopied making.old making.new lost.entry.bounds lost.entry.play.now copies.old copies.new)
         (λ _. Stopped making.old making.new (length (all_made making.old lost.entry.bounds lost.entry.play.now copies.old).gates)) }
 {
+    // A number, since the pass reads lower places of the list that it writes.
     for number in 0..2 * copies.len() {
         let place = place_at(number);
         if copies[place.node()].at(place).is_some() {
@@ -186,7 +187,11 @@ pub(super) fn write_gates(
     ensures table { pairs gates.new ≡ table_after first (pairs gates.old) used lost.entry }
 {
     need_core(lost.core, lost.values, copies);
-    need_inputs(&gates[..used], first, copies);
+    let circuit = Circuit {
+        first,
+        gates: &gates[..used],
+    };
+    need_inputs(circuit, copies);
     let mut making = Making {
         gates,
         first,

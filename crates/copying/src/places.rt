@@ -4,10 +4,10 @@ ghost use Rattle.circuit.specs.Gates.{pairs};
 ghost use Rattle.copies.specs.Copy.{opposite, like};
 ghost use Rattle.copies.specs.Make.{literal_for, core_of, needed, needs};
 ghost use Rattle.copying.specs.Places.{none, held_in, put_in, put, listed, copy_code, shown};
-ghost use Rattle.valuation.specs.Circuit.{Ascending, reads};
+ghost use Rattle.valuation.specs.Circuit.{reads};
 ghost use Rattle.valuation.specs.Sweep.{marked, sweep};
 
-use circuit::{Gate, Literal};
+use circuit::{Circuit, Literal};
 use valuation::Value;
 
 // The copies of a node in positive and in negative polarity, where they are needed. Until its copy is made, a node stands for itself.
@@ -147,16 +147,16 @@ pub(super) fn need_core(core: &[bool], values: &[Value], copies: &mut [Copies])
 }
 
 // Needs whatever a needed gate needs: its literals, in its polarity. One pass, from the last place down.
-pub(super) fn need_inputs(gates: &[Gate], first: usize, copies: &mut [Copies])
-    requires ascending { Ascending first (pairs gates.now) }
-    requires nodes { length copies.old ≡ first + length gates.now }
+pub(super) fn need_inputs(circuit: Circuit<'_>, copies: &mut [Copies])
+    requires nodes { length copies.old ≡ circuit.first + length circuit.gates.now }
     requires small { length copies.old ≤ 32768 }
-    ensures { shown copies.new ≡ sweep (needs first (pairs gates.now)) (2 * length copies.old) (shown copies.old) }
+    ensures { shown copies.new ≡ sweep (needs circuit.entry.first (pairs circuit.entry.gates.now)) (2 * length copies.old) (shown copies.old) }
 {
-    for number in (2 * first..2 * copies.len()).rev() {
+    // A number, since the pass writes at lower places of the list that it reads.
+    for number in (2 * circuit.first..2 * copies.len()).rev() {
         let place = place_at(number);
         if copies[place.node()].at(place).is_some() {
-            let gate = gates[place.node() - first];
+            let gate = circuit.gates[place.node() - circuit.first];
             need(copies, flipped_by(gate.left(), place));
             need(copies, flipped_by(gate.right(), place));
         }

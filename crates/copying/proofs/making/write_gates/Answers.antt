@@ -1,6 +1,7 @@
 use Rattle.std.proofs.Common.{◌≡◌, ◌+◌, ◌≤◌, length, sym, refl, ap, ◌∙◌, subst, arith, rules}
 use Rattle.std.proofs.lemmas.Result.{err_from_is_err_and}
 use Rattle.std.proofs.lemmas.List.{length-replicate, length-take-le}
+use Rattle.std.proofs.lemmas.List.{length-take}
 use Rattle.circuit.specs.Gates.{pairs}
 use Rattle.circuit.proofs.Records.{length_pairs, pairs_take}
 use Rattle.valuation.specs.Circuit.{Ascending}
@@ -13,13 +14,18 @@ need_core-requires c =
     let l = ap length c.requires.clear ∙ length-replicate (c.args.first + c.args.used) none in
     record { core = omega arith; values = omega arith; small = omega arith }
 
+pub invariant_of-circuit : goal.invariant_of-circuit
+invariant_of-circuit c = record {
+  ascending = subst (Ascending c.args.first) (sym (pairs_take c.args.used c.args.gates.now)) c.requires.ascending;
+  countable = simp length-take (omega (arith, c.requires.small));
+}
+
 pub need_inputs-requires : goal.need_inputs-requires
 need_inputs-requires c =
     let gs = c.args.gates.now in
     let l = ap length c.requires.clear ∙ length-replicate (c.args.first + c.args.used) none in
     let k = c.need_core.auto.copies in
     record {
-      ascending = subst (Ascending c.args.first) (sym (pairs_take c.args.used gs)) c.requires.ascending;
       nodes = omega (arith, length-take-le c.args.used gs (omega arith));
       small = omega arith;
     }
