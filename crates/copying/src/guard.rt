@@ -17,6 +17,14 @@ pub(super) struct Making<'a> {
     ghost room: { used + made ≤ length gates.now },
 }
 
+// Sets `count` entries to zero, from `from` on.
+fn wipe(gates: &mut [Gate], from: usize, count: usize)
+    requires { from + count ≤ length gates.old }
+    ensures { pairs gates.new ≡ written (pairs gates.old) from (replicate count blank) }
+{
+    gates[from..from + count].fill(Gate::free());
+}
+
 impl Drop for Making<'_> {
     fn drop(self)
         ensures { pairs self.exit.0.now ≡ written (pairs self.entry.gates.now) self.entry.used (replicate self.entry.made blank) }
@@ -27,7 +35,7 @@ impl Drop for Making<'_> {
             used,
             made,
         } = self;
-        gates[used..used + made].fill(Gate::free());
+        wipe(gates, used, made);
     }
 }
 
