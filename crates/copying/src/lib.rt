@@ -12,9 +12,10 @@ ghost use Rattle.copying.specs.Settle.{answer, table_after};
 ghost use Rattle.copying.specs.Table.{BlankFrom};
 ghost use Rattle.valuation.specs.Circuit.{Ascending};
 
-use circuit::{Gate, Literal};
-use making::write_gates;
-use places::Copies;
+use circuit::{Circuit, Gate, Literal};
+use guard::Making;
+use making::make_gates;
+use places::{Copies, need_core, need_inputs};
 use valuation::Value;
 
 mod guard;
@@ -63,10 +64,25 @@ pub fn settle(
     ensures table { pairs gates.new ≡ table_after first (pairs gates.old) used lost.entry }
     ensures work { copies.new ≡ copies.old }
 {
-    let nodes = first + used;
-    let outcome = write_gates(gates, used, first, lost, &mut copies[..nodes]);
-    copies[..nodes].fill(Copies::NONE);
-    outcome
+    let copies = &mut copies[..first + used];
+    need_core(lost.core, lost.values, copies);
+    let circuit = Circuit {
+        first,
+        gates: &gates[..used],
+    };
+    need_inputs(circuit, copies);
+    let mut making = Making {
+        gates,
+        first,
+        used,
+        made: 0,
+    };
+    let root = make_gates(&mut making, lost, copies);
+    copies.fill(Copies::NONE);
+    Ok(Settled {
+        root: root?,
+        made: making.commit(),
+    })
 }
 
 pub fn table_kept()

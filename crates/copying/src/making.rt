@@ -153,7 +153,11 @@ fn root_gate(root: Literal, joined: Literal) -> Gate
 }
 
 // Makes all gates of a settlement, where the list of copies shows what is needed, and gives the new root.
-fn make_gates(making: &mut Making, lost: Lost, copies: &mut [Copies]) -> Result<Literal, Full>
+pub(super) fn make_gates(
+    making: &mut Making,
+    lost: Lost,
+    copies: &mut [Copies],
+) -> Result<Literal, Full>
     requires start { making.old.made ≡ 0 }
     requires ascending { Ascending making.old.first (olds making.old) }
     requires nodes { length copies.old ≡ making.old.first + making.old.used }
@@ -166,41 +170,4 @@ fn make_gates(making: &mut Making, lost: Lost, copies: &mut [Copies]) -> Result<
     make_copies(making, lost, copies)?;
     let joined = join_core(making, lost.core, lost.values, copies)?;
     making.add(root_gate(lost.root, joined))
-}
-
-// Makes a settlement's gates after the `used` ones, or leaves the table as it was. The copies are left in their list.
-pub(super) fn write_gates(
-    gates: &mut [Gate],
-    used: usize,
-    first: usize,
-    lost: Lost,
-    copies: &mut [Copies],
-) -> Result<Settled, Full>
-    requires used { used ≤ length gates.old }
-    requires small { first + length gates.old ≤ 32768 }
-    requires ascending { Ascending first (take used (pairs gates.old)) }
-    requires blank { BlankFrom (pairs gates.old) used }
-    requires core { first + used ≤ length lost.core.now }
-    requires values { first + used ≤ length lost.values.now }
-    requires clear { copies.old ≡ replicate (first + used) none }
-    ensures answer { result ≡ answer first (pairs gates.old) used lost.entry }
-    ensures table { pairs gates.new ≡ table_after first (pairs gates.old) used lost.entry }
-{
-    need_core(lost.core, lost.values, copies);
-    let circuit = Circuit {
-        first,
-        gates: &gates[..used],
-    };
-    need_inputs(circuit, copies);
-    let mut making = Making {
-        gates,
-        first,
-        used,
-        made: 0,
-    };
-    let root = make_gates(&mut making, lost, copies)?;
-    Ok(Settled {
-        root,
-        made: making.commit(),
-    })
 }
