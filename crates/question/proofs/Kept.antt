@@ -9,7 +9,7 @@ use Rattle.circuit.specs.declared.Gate.{Gate}
 use Rattle.circuit.specs.Gates.{pair, pairs, empty}
 use Rattle.question.specs.declared.prefix.Block.{Block}
 use Rattle.question.specs.Formula.{Formula, WellFormed, formula_of, output_bytes}
-use Rattle.question.specs.declared.judging.Outline.{Outline}
+use Rattle.question.specs.declared.frame.Frame.{Frame}
 use Rattle.question.specs.Rules.{blocks_of}
 use Rattle.question.specs.Judging.{Right, Outlined, judgement}
 use Rattle.question.specs.declared.records.Refusal.TheVariants.{TableSize}
@@ -38,12 +38,12 @@ module _ (bytes : List ℕ) (f : Formula) (right : Right bytes (Ok f)) (bs : Lis
   pub free : drop n table ≡ replicate (length table - n) empty
   free = free_from n table (λ k past lt. (each k lt).1 past)
 
--- the bytes have room for what their outline says
-pub bytes_long : (bytes : List ℕ) (o : Outline) → Outlined bytes o → length bytes ≡ 7 * length (blocks_of o.prefix) + 8 * o.gates + 6
+-- the bytes have room for what their frame says
+pub bytes_long : (bytes : List ℕ) (o : Frame) → Outlined bytes o → length bytes ≡ 7 * length (blocks_of o.prefix) + 8 * o.gates + 6
 bytes_long bytes o d = long d.formula bytes d.right.1 ∙ ap (λ cs. 7 * length cs + 8 * length d.formula.gates + 6) (sym d.blocks) ∙ ap (λ m. 7 * length (blocks_of o.prefix) + 8 * m + 6) (sym d.gates)
 
--- what holds of a question that is made of an outline and a filled table, v before
-pub record Made (bytes : List ℕ) (o : Outline) (v table : Vec Gate Global) : Type 0 where
+-- what holds of a question that is made of a frame and a filled table, v before
+pub record Made (bytes : List ℕ) (o : Frame) (v table : Vec Gate Global) : Type 0 where
   pub room : o.gates ≤ vec_len v
   pub small : vec_len v ≤ 8000
   pub free : drop o.gates (vec_items table) ≡ replicate (vec_len v - o.gates) empty
@@ -53,7 +53,7 @@ pub record Made (bytes : List ℕ) (o : Outline) (v table : Vec Gate Global) : T
   pub right : Right bytes (judgement bytes)
 
 -- ws is what v holds once it is filled in place
-module _ (bytes : List ℕ) (o : Outline) (d : Outlined bytes o) (v : Vec Gate Global) (ws : List Gate) (size : length ws ≡ vec_len v) (fit : unfit o.gates (vec_len v) ≡ false)
+module _ (bytes : List ℕ) (o : Frame) (d : Outlined bytes o) (v : Vec Gate Global) (ws : List Gate) (size : length ws ≡ vec_len v) (fit : unfit o.gates (vec_len v) ≡ false)
     (first : ℕ) (at : first ≡ 7 * length (blocks_of o.prefix))
     (each : (k : ℕ) → k < length ws → Entry (take (length bytes - first) (drop first bytes)) o.gates k (get_or ws k empty)) where
   same : vec_items (with_items v ws) ≡ ws
