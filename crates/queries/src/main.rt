@@ -59,8 +59,8 @@ fn force(nodes: &str, forced: &mut [Value]) -> anyhow::Result<()> {
             None => (field, Value::True),
         };
         let node = node.parse::<usize>()?;
-        if node < forced.len() {
-            forced[node] = value;
+        if let Some(entry) = forced.get_mut(node) {
+            *entry = value;
         }
     }
     Ok(())

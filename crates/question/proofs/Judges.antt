@@ -1,7 +1,7 @@
 -- Judging record by record: what holds between two records, and at the end. Assumes nothing.
-use Rattle.std.proofs.Common.{◌≡◌, ℕ, suc, ◌+◌, ◌-◌, ◌<◌, ◌≤◌, List, [], ◌∷◌, ◌++◌, length, take, drop, Some, None, Ok, Err, Option, Result, sym, refl, ap, ◌∙◌, subst, arith}
+use Rattle.std.proofs.Common.{◌≡◌, ℕ, suc, ◌+◌, ◌-◌, ◌<◌, ◌≤◌, List, [], ◌∷◌, ◌++◌, length, drop, Some, None, Ok, Err, Option, Result, sym, refl, ap, ◌∙◌, subst, arith}
 use Rattle.std.specs.List.{flat_map}
-use Rattle.std.proofs.lemmas.List.{append_assoc, append-nil, length-append, length-drop, drop-drop, drop_all, nil_from_length, length_push, flat_map_more, take_rest}
+use Rattle.std.proofs.lemmas.List.{append_assoc, append-nil, length-append, drop_all, nil_from_length, length_push, flat_map_more}
 use Rattle.valuation.specs.Circuit.{Pair}
 use Rattle.circuit.specs.declared.Literal.{Literal}
 use Rattle.question.specs.declared.prefix.Block.{Block}

@@ -46,6 +46,7 @@ pub struct Block {
 }
 
 // At most sixteen blocks, with the number of their variables.
+// An array and a count: an `ArrayVec` is not `Copy`, as a `Frame` is, and it wants a default block, which no formula has.
 #[derive(Clone, Copy)]
 pub struct Prefix {
     blocks: [Block; 16],

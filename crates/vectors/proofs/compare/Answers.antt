@@ -1,4 +1,4 @@
-use Rattle.std.proofs.Common.{Ok, of_calls}
+use Rattle.std.proofs.Common.{of_calls}
 use Rattle.vectors.proofs.Tallied.{one_more}
 use Rattle.vectors.proofs.compare.Goals as goal
 

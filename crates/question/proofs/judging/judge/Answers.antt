@@ -1,8 +1,8 @@
-use Rattle.std.proofs.Common.{◌+◌, drop, Ok, sym, refl, ap, ◌∙◌, subst}
+use Rattle.std.proofs.Common.{Ok, sym, refl, ap, ◌∙◌}
 use Rattle.std.proofs.lemmas.List.{take_rest}
 use Rattle.std.proofs.lemmas.Result.{err_from_is_err_and}
 use Rattle.question.specs.Rules.{blocks_of}
-use Rattle.question.proofs.Judges.{SoFar, begin, step_block, step_gate, ends, stops}
+use Rattle.question.proofs.Judges.{begin, step_block, step_gate, ends, stops}
 use Rattle.question.proofs.judging.judge.Goals as goal
 
 pub loop-block-init : goal.loop-block-init

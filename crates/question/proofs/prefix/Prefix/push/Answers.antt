@@ -14,10 +14,3 @@ invariant_of-self c =
       summed = ap (λ n. n + c.args.block.size) p.summed ∙ sym (ap total (take_more_set p.blocks p.count c.args.block inside) ∙ total_push _ c.args.block);
       small = omega arith;
     }
-
-pub returns : goal.returns
-returns c =
-    let p = c.args.self.now in
-    let long = length-take-le p.count p.blocks (omega arith) in
-    let inside : p.count < length p.blocks = omega arith in
-    take_more_set p.blocks p.count c.args.block inside
