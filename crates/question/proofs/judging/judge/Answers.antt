@@ -12,24 +12,24 @@ pub returns-in_err-block : goal.returns-in_err-block
 returns-in_err-block c =
     let p = err_from_is_err_and c.from_residual.result c.from_residual.ensures.1 in
     let l = c.loop-block in
-    rw (p.1, p.2) (stops c.args.bytes.now (blocks_of l.begun.prefix) l.begun.gates l.rest.now l.invariant c.next.result c.next.ensures.value c.next.ensures.front c.in_err-block.field-0.0 c.in_err-block.was)
+    rw (p.1, p.2) (stops _ _ _ _ l.invariant _ c.next.ensures.value c.next.ensures.front c.in_err-block.field-0.0 c.in_err-block.was)
 
 pub loop-block-preserved-in-Block : goal.loop-block-preserved-in-Block
 loop-block-preserved-in-Block c =
     let l = c.loop-block in
     rw (c.add_block.ensures.blocks, c.add_block.ensures.gates, take_rest l.rest.now 7)
-    (step_block c.args.bytes.now (blocks_of l.begun.prefix) l.begun.gates l.rest.now l.invariant c.next.result c.next.ensures.value c.next.ensures.front c.in-Block.block (c.in_ok-block.was ∙ ap Ok c.in-Block.is))
+    (step_block _ _ _ _ l.invariant _ c.next.ensures.value c.next.ensures.front c.in-Block.block (c.in_ok-block.was ∙ ap Ok c.in-Block.is))
 
 pub loop-block-preserved : goal.loop-block-preserved
 loop-block-preserved c =
     let l = c.loop-block in
     rw (c.add_gate.ensures.blocks, c.add_gate.ensures.gates, take_rest l.rest.now 8)
-    (step_gate c.args.bytes.now (blocks_of l.begun.prefix) l.begun.gates l.rest.now l.invariant c.next.result c.next.ensures.value c.next.ensures.front c.in-Gate.field-0 c.in-Gate.field-1 (c.in_ok-block.was ∙ ap Ok c.in-Gate.is))
+    (step_gate _ _ _ _ l.invariant _ c.next.ensures.value c.next.ensures.front c.in-Gate.field-0 c.in-Gate.field-1 (c.in_ok-block.was ∙ ap Ok c.in-Gate.is))
 
 pub returns-in-Output : goal.returns-in-Output
 returns-in-Output c =
     let l = c.loop-block in
-    let e = ends c.args.bytes.now (blocks_of l.begun.prefix) l.begun.gates l.rest.now l.invariant c.next.result c.next.ensures.value c.next.ensures.front c.in-Output.output (c.in_ok-block.was ∙ ap Ok c.in-Output.is) in
+    let e = ends _ _ _ _ l.invariant _ c.next.ensures.value c.next.ensures.front c.in-Output.output (c.in_ok-block.was ∙ ap Ok c.in-Output.is) in
     record {
       formula = record { blocks = blocks_of l.begun.prefix; gates = l.invariant.gates; output = c.in-Output.output.code };
       judgement = e.0;

@@ -18,34 +18,15 @@ slice_bounds-fill-start c =
 pub fill-requires : goal.fill-requires
 fill-requires c = simp (length-take, length-drop) (omega (arith, bytes_long c.args.bytes.now c.in-Ok.frame c.in-Ok.ensures.0, ap length c.blocks-in-Ok.ensures.value, c.gates.ensures))
 
-pub join-requires-clause-free : goal.join-requires-clause-free
-join-requires-clause-free c =
-    let o = c.in-Ok.frame in
-    let bytes = c.args.bytes.now in
-    let first = 7 * length c.blocks-in-Ok.result.now in
-    let at = ap (λ (bs : List Block). 7 * length bs) c.blocks-in-Ok.ensures.value in
-    let m = made bytes o c.in-Ok.ensures.0 c.args.table c.fill.new.table (omega arith) (ap (unfit o.gates) (sym c.len.ensures) ∙ c.in-Ok.ensures.1) first at
-    (subst (λ n. (k : ℕ) → k < length c.fill.new.table → Entry (take (length bytes - first) (drop first bytes)) n k (get_or c.fill.new.table k empty)) c.gates.ensures c.fill.ensures) in
-    m.free
-
-pub join-requires-clause-ascending : goal.join-requires-clause-ascending
-join-requires-clause-ascending c =
-    let o = c.in-Ok.frame in
-    let bytes = c.args.bytes.now in
-    let first = 7 * length c.blocks-in-Ok.result.now in
-    let at = ap (λ (bs : List Block). 7 * length bs) c.blocks-in-Ok.ensures.value in
-    let m = made bytes o c.in-Ok.ensures.0 c.args.table c.fill.new.table (omega arith) (ap (unfit o.gates) (sym c.len.ensures) ∙ c.in-Ok.ensures.1) first at
-    (subst (λ n. (k : ℕ) → k < length c.fill.new.table → Entry (take (length bytes - first) (drop first bytes)) n k (get_or c.fill.new.table k empty)) c.gates.ensures c.fill.ensures) in
-    m.well_formed.good.ascending
+pub join-requires : goal.join-requires
+join-requires c =
+    let m = made c.args.bytes.now c.in-Ok.frame c.args.table c.len.result c.in-Ok.ensures c.len.ensures c.blocks-in-Ok.result.now c.blocks-in-Ok.ensures.value c.gates.result c.gates.ensures c.fill.new.table (omega arith) c.fill.ensures in
+    record { room = m.room; small = m.small; free = m.free; ascending = m.well_formed.good.ascending }
 
 pub returns-in-Ok : goal.returns-in-Ok
 returns-in-Ok c =
-    let o = c.in-Ok.frame in
     let bytes = c.args.bytes.now in
-    let first = 7 * length c.blocks-in-Ok.result.now in
-    let at = ap (λ (bs : List Block). 7 * length bs) c.blocks-in-Ok.ensures.value in
-    let m = made bytes o c.in-Ok.ensures.0 c.args.table c.fill.new.table (omega arith) (ap (unfit o.gates) (sym c.len.ensures) ∙ c.in-Ok.ensures.1) first at
-    (subst (λ n. (k : ℕ) → k < length c.fill.new.table → Entry (take (length bytes - first) (drop first bytes)) n k (get_or c.fill.new.table k empty)) c.gates.ensures c.fill.ensures) in
+    let m = made c.args.bytes.now c.in-Ok.frame c.args.table c.len.result c.in-Ok.ensures c.len.ensures c.blocks-in-Ok.result.now c.blocks-in-Ok.ensures.value c.gates.result c.gates.ensures c.fill.new.table (omega arith) c.fill.ensures in
     let is : shown (Ok c.join.result) ≡ loaded bytes (vec_items c.args.table) = rw (c.join.ensures.frame, c.join.ensures.table) m.result in
     record { result = is; accepted_exactly = accepted_exactly bytes (vec_items c.args.table) _ m.right is; refused_exactly = refused_exactly bytes (vec_items c.args.table) _ m.right is; one_encoding = one_encoding }
 
