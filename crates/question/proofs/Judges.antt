@@ -14,7 +14,6 @@ use Rattle.question.specs.Rules.{word, kind_of, limit, rules, first, record_at, 
 use Rattle.question.specs.Judging.{pair_of, bytes_of, Front, after, judged, judgement, Right}
 use Rattle.question.proofs.Steps.{Reads, block_step, gate_step, output_step}
 use Rattle.question.proofs.Goods.{good_block, good_gate}
-use Rattle.question.proofs.Never.{impossible}
 
 -- after these blocks and n gates, with these bytes left: what is before them are good records, and they give the same judgement
 pub record SoFar (bytes : List ℕ) (bs : List Block) (n : ℕ) (rest : List ℕ) : Type 0 where
@@ -51,7 +50,7 @@ begin bytes =
     }
 
 unless_err : {X : Type 0} (o : Option Refusal) (x : X) (why : Refusal) → unless o x ≡ Err why → o ≡ Some why
-unless_err None x why h = impossible (cc)
+unless_err None x why h = absurd (cc)
 unless_err (Some r) x why h = cc
 
 joined_push : {X : Type 0} (f : X → List ℕ) (xs : List X) (x : X) → flat_map f xs ++ f x ≡ flat_map f (xs ++ x ∷ [])
