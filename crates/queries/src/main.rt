@@ -66,13 +66,9 @@ fn force(nodes: &str, forced: &mut [Value]) -> anyhow::Result<()> {
     Ok(())
 }
 
-fn gates_of(heap: Global, fields: Split<'_, char>) -> anyhow::Result<Vec<Gate>> {
-    let mut gates = Vec::new(heap);
-    for field in fields {
-        let (left, right) = field.split_once(',').context("no gate")?;
-        gates.push(Gate::new(literal(left)?, literal(right)?))?;
-    }
-    Ok(gates)
+fn gate_of(field: &str) -> anyhow::Result<Gate> {
+    let (left, right) = field.split_once(',').context("no gate")?;
+    Ok(Gate::new(literal(left)?, literal(right)?))
 }
 
 // A stored query, and the answer to it.
@@ -110,7 +106,7 @@ fn case_of(heap: Global, mut fields: Split<'_, char>) -> anyhow::Result<Case> {
     let core = text(&mut fields)?;
     let forcing = text(&mut fields)?;
     let play = values_of(heap, text(&mut fields)?)?;
-    let gates = gates_of(heap, fields)?;
+    let gates = fields.map(gate_of).try_collect::<Vec<Gate>>(heap)?;
     let nodes = variables.saturating_add(1).saturating_add(gates.len());
     let mut forced = vec![in heap; Value::Unknown; nodes]?;
     force(forcing, &mut forced[..])?;
