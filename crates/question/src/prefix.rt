@@ -46,7 +46,7 @@ pub struct Block {
 }
 
 // At most sixteen blocks, with the number of their variables.
-// An array and a count: an `ArrayVec` is not `Copy`, as a `Frame` is, and it wants a default block, which no formula has.
+// An array and a count: an `ArrayVec` is not `Copy`, as a `Frame` is, wants a default block, which no formula has, and `few` would stand here still.
 #[derive(Clone, Copy)]
 pub struct Prefix {
     blocks: [Block; 16],
