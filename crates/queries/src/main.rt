@@ -12,7 +12,7 @@ use search::{Ask, Reply, Searcher};
 use splitter::Splitter;
 use std::alloc::{AllocError, Global};
 use std::error::Error;
-use std::io::BufReader;
+use std::io::{BufRead, BufReader};
 use std::str::{FromStr, Split};
 use valuation::Value;
 use vectors::compare;
@@ -212,8 +212,8 @@ fn line_agrees(heap: Global, all: &mut Searchers, line: &str) -> anyhow::Result<
 fn main(rt: HostRuntime) -> anyhow::Result<()> {
     let heap = rt.alloc();
     let mut all = make_searchers(heap)?;
-    let input = BufReader::new(heap, rt.stdin())?;
-    let tally = compare(&rt, heap, input, |line| line_agrees(heap, &mut all, line))?;
+    let lines = BufReader::new(heap, rt.stdin())?.lines(heap);
+    let tally = compare(&rt, lines, |line| line_agrees(heap, &mut all, line))?;
     println!(rt; "{tally}")?;
     Ok(())
 }

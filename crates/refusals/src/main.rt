@@ -6,7 +6,7 @@ use anyhow::Context;
 use circuit::{Gate, Literal};
 use question::load;
 use std::alloc::{AllocError, Global};
-use std::io::BufReader;
+use std::io::{BufRead, BufReader};
 use vectors::compare;
 
 // What a load comes to.
@@ -63,8 +63,8 @@ fn agrees(heap: Global, line: &str) -> anyhow::Result<bool> {
 
 fn main(rt: HostRuntime) -> anyhow::Result<()> {
     let heap = rt.alloc();
-    let input = BufReader::new(heap, rt.stdin())?;
-    let tally = compare(&rt, heap, input, |line| agrees(heap, line))?;
+    let lines = BufReader::new(heap, rt.stdin())?.lines(heap);
+    let tally = compare(&rt, lines, |line| agrees(heap, line))?;
     println!(rt; "{tally}")?;
     Ok(())
 }

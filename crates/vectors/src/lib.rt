@@ -1,12 +1,11 @@
 // Compares what a program answers with stored lines.
 #![tactic(auto)]
 
-ghost use Rattle.std.specs.Prelude.{IfOk};
-ghost use Rattle.vectors.specs.Tallies.{Counts};
+ghost use Rattle.std.specs.Prelude.{IfOk, List};
+ghost use Rattle.std.specs.Iterator.{IsFinite, Drains};
+ghost use Rattle.vectors.specs.Tallies.{Answers, Counts};
 
-use std::alloc::Global;
-use std::fmt;
-use std::io::BufRead;
+use std::{fmt, io};
 
 // How many lines agree, and how many differ, each up to the largest `usize`.
 #[derive(Clone, Copy, PartialEq, Eq, Debug)]
@@ -39,20 +38,20 @@ impl Tally {
 }
 
 // Asks of each line in turn whether it agrees, and prints those that differ.
-pub fn compare<R: BufRead + Drop, F: FnMut(&str) -> anyhow::Result<bool>>(
-    rt: &impl Print,
-    heap: Global,
-    input: R,
-    mut agrees: F,
-) -> anyhow::Result<Tally>
-    requires { F.IsAlwaysCallable agrees }
-    ensures { IfOk result (λ tally. (last : F) × Counts (λ f b g. (line : _) × F.step f line (Ok b) g) agrees last tally) }
+pub fn compare<
+    L: Iterator<Item = io::Result<String>> + Drop,
+    F: FnMut(&str) -> anyhow::Result<bool>,
+>(rt: &impl Print, lines: L, mut agrees: F) -> anyhow::Result<Tally>
+    requires can { L.can_next lines }
+    requires finite { IsFinite (L.remaining lines) }
+    requires callable { F.IsAlwaysCallable agrees }
+    ensures { IfOk result (λ tally. (read : List _) × (last : F) × Drains L.next_gives lines read × Counts (Answers F.step) agrees last read tally) }
 {
     let mut tally = Tally {
         agree: 0,
         differ: 0,
     };
-    for line in input.lines(heap) {
+    for line in lines {
         let line = line?;
         let same = agrees(line.as_str())?;
         tally.add(same);
@@ -66,14 +65,14 @@ pub fn compare<R: BufRead + Drop, F: FnMut(&str) -> anyhow::Result<bool>>(
 #[cfg(test)]
 mod tests {
     use super::*;
+    use std::io::BufRead;
 
     #[test]
     fn lines_are_counted_by_what_is_said_of_them(rt: HostRuntime) {
         let heap = rt.alloc();
         let found = compare(
             &rt,
-            heap,
-            &b"one\ntwo\nthree\n"[..],
+            (&b"one\ntwo\nthree\n"[..]).lines(heap),
             |line| Ok(line.len() == 3),
         );
         let tally = found.ok();
