@@ -2,7 +2,7 @@
 #![tactic(auto)]
 
 use circuit::Gate;
-use question::{Block, Quantifier, Question, load};
+use question::{Block, Question, load};
 use std::io::Read;
 
 // No accepted question has more bytes than 16,118.
@@ -11,24 +11,14 @@ const MOST_BYTES: u64 = 20_000;
 // The most entries that a load takes.
 const TABLE_ENTRIES: usize = 8_000;
 
-// The word for a block's quantifier.
-fn quantifier(block: &Block) -> &'static str {
-    match block.quantifier {
-        Quantifier::Existential => "existential",
-        Quantifier::Universal => "universal",
-    }
-}
-
 // The blocks with their variables, which are numbered from 1 in the order of the blocks.
 fn print_blocks(rt: &HostRuntime, blocks: &[Block]) -> anyhow::Result<()> {
-    let mut variable = 1usize;
-    for (i, block) in blocks.iter().enumerate() {
-        let level = i.saturating_add(1);
-        let owner = quantifier(block);
+    let mut variables = 1usize..;
+    for (level, block) in (1usize..).zip(blocks) {
+        let owner = block.quantifier;
         print!(rt; "block {level} {owner} variables")?;
-        for _ in 0..block.size {
+        for variable in variables.by_ref().take(block.size) {
             print!(rt; " {variable}")?;
-            variable = variable.saturating_add(1);
         }
         println!(rt; "")?;
     }
@@ -37,9 +27,7 @@ fn print_blocks(rt: &HostRuntime, blocks: &[Block]) -> anyhow::Result<()> {
 
 // The gates, whose nodes follow those of the variables.
 fn print_gates(rt: &HostRuntime, variables: usize, gates: &[Gate]) -> anyhow::Result<()> {
-    let mut node = variables;
-    for gate in gates {
-        node = node.saturating_add(1);
+    for (node, gate) in (1usize..).skip(variables).zip(gates) {
         let left = gate.left().code();
         let right = gate.right().code();
         println!(rt; "gate {node} left {left} right {right}")?;

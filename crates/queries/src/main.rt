@@ -3,7 +3,7 @@
 // (false with a minus), a play that they come from, and the gates. Values are 0 unset, 1 false, 2 true; - is an empty list.
 #![tactic(auto)]
 
-use anyhow::anyhow;
+use anyhow::{Context, anyhow};
 use circuit::{Gate, Literal};
 use counter::Counter;
 use halver::Halver;
@@ -11,37 +11,41 @@ use probe::probe;
 use search::{Ask, Reply, Searcher};
 use splitter::Splitter;
 use std::alloc::{AllocError, Global};
+use std::error::Error;
 use std::io::{BufRead, BufReader};
-use std::str::Split;
+use std::str::{FromStr, Split};
 use valuation::Value;
+use vectors::compare;
 
-fn text<'a>(field: Option<&'a str>) -> anyhow::Result<&'a str> {
-    match field {
-        Some(text) => Ok(text),
-        None => Err(anyhow!("a field is missing")),
-    }
+// The next field.
+fn text<'a>(fields: &mut Split<'a, char>) -> anyhow::Result<&'a str> {
+    fields.next().context("a field is missing")
 }
 
-fn number(field: Option<&str>) -> anyhow::Result<usize> {
-    Ok(text(field)?.parse::<usize>()?)
+fn parsed<T: FromStr>(text: &str) -> anyhow::Result<T>
+where
+    T::Err: Error,
+{
+    Ok(text.parse::<T>()?)
 }
 
 fn literal(text: &str) -> anyhow::Result<Literal> {
-    Ok(Literal::new(text.parse::<u16>()?))
+    Ok(Literal::new(parsed::<u16>(text)?))
+}
+
+// A function, since neither `TryFrom` nor `Value` is of this crate.
+fn value_of(digit: u8) -> Option<Value> {
+    match digit {
+        b'0' => Some(Value::Unknown),
+        b'1' => Some(Value::False),
+        b'2' => Some(Value::True),
+        _ => None,
+    }
 }
 
 // The values of a row of digits.
 fn values_of(heap: Global, digits: &str) -> Result<Vec<Value>, AllocError> {
-    let mut values = Vec::new(heap);
-    for digit in digits.bytes() {
-        match digit {
-            b'0' => values.push(Value::Unknown)?,
-            b'1' => values.push(Value::False)?,
-            b'2' => values.push(Value::True)?,
-            _ => {}
-        }
-    }
-    Ok(values)
+    digits.bytes().filter_map(value_of).collect(heap)
 }
 
 // Writes a value at each node of a list of nodes, where it is false with a minus.
@@ -55,22 +59,16 @@ fn force(nodes: &str, forced: &mut [Value]) -> anyhow::Result<()> {
             None => (field, Value::True),
         };
         let node = node.parse::<usize>()?;
-        if node < forced.len() {
-            forced[node] = value;
+        if let Some(entry) = forced.get_mut(node) {
+            *entry = value;
         }
     }
     Ok(())
 }
 
-fn gates_of(heap: Global, fields: Split<'_, char>) -> anyhow::Result<Vec<Gate>> {
-    let mut gates = Vec::new(heap);
-    for field in fields {
-        let Some((left, right)) = field.split_once(',') else {
-            return Err(anyhow!("no gate"));
-        };
-        gates.push(Gate::new(literal(left)?, literal(right)?))?;
-    }
-    Ok(gates)
+fn gate_of(field: &str) -> anyhow::Result<Gate> {
+    let (left, right) = field.split_once(',').context("no gate")?;
+    Ok(Gate::new(literal(left)?, literal(right)?))
 }
 
 // A stored query, and the answer to it.
@@ -98,17 +96,17 @@ fn reply_of(word: &str, need: u64) -> anyhow::Result<Reply> {
 }
 
 fn case_of(heap: Global, mut fields: Split<'_, char>) -> anyhow::Result<Case> {
-    let variables = number(fields.next())?;
-    let root = literal(text(fields.next())?)?;
-    let start = number(fields.next())?;
-    let allowance = text(fields.next())?.parse::<u64>()?;
-    let word = text(fields.next())?;
-    let need = text(fields.next())?.parse::<u64>()?;
-    let range = values_of(heap, text(fields.next())?)?;
-    let core = text(fields.next())?;
-    let forcing = text(fields.next())?;
-    let play = values_of(heap, text(fields.next())?)?;
-    let gates = gates_of(heap, fields)?;
+    let variables = parsed::<usize>(text(&mut fields)?)?;
+    let root = literal(text(&mut fields)?)?;
+    let start = parsed::<usize>(text(&mut fields)?)?;
+    let allowance = parsed::<u64>(text(&mut fields)?)?;
+    let word = text(&mut fields)?;
+    let need = parsed::<u64>(text(&mut fields)?)?;
+    let range = values_of(heap, text(&mut fields)?)?;
+    let core = text(&mut fields)?;
+    let forcing = text(&mut fields)?;
+    let play = values_of(heap, text(&mut fields)?)?;
+    let gates = fields.map(gate_of).try_collect::<Vec<Gate>>(heap)?;
     let nodes = variables.saturating_add(1).saturating_add(gates.len());
     let mut forced = vec![in heap; Value::Unknown; nodes]?;
     force(forcing, &mut forced[..])?;
@@ -131,12 +129,10 @@ fn case_of(heap: Global, mut fields: Split<'_, char>) -> anyhow::Result<Case> {
 
 // Whether the marks are on the nodes of a list.
 fn same_marks(marks: &[bool], marked: &[Value]) -> bool {
-    for (mark, value) in marks.iter().zip(marked.iter()) {
-        if *mark != (*value == Value::True) {
-            return false;
-        }
-    }
-    true
+    marks
+        .iter()
+        .zip(marked)
+        .all(|(mark, value)| *mark == (*value == Value::True))
 }
 
 // Whether a searcher answers as stored, and leaves the forced list, the range and the marks so.
@@ -164,9 +160,7 @@ fn agrees<S: Searcher>(heap: Global, searcher: &mut S, case: &Case) -> anyhow::R
         &mut range[..],
         &mut marks[..],
     );
-    let Some(reply) = answer else {
-        return Err(anyhow!("the query is not sound"));
-    };
+    let reply = answer.context("the query is not sound")?;
     Ok(
         reply == case.reply
             && forced.as_slice() == case.forced.as_slice()
@@ -203,7 +197,7 @@ fn make_searchers(heap: Global) -> Result<Searchers, AllocError> {
 fn line_agrees(heap: Global, all: &mut Searchers, line: &str) -> anyhow::Result<bool> {
     let mut fields = line.split(' ');
     let _ = fields.next();
-    let name = text(fields.next())?;
+    let name = text(&mut fields)?;
     let case = case_of(heap, fields)?;
     match name {
         "splitter" => agrees(heap, &mut all.splitter, &case),
@@ -215,24 +209,11 @@ fn line_agrees(heap: Global, all: &mut Searchers, line: &str) -> anyhow::Result<
     }
 }
 
-fn run(rt: &HostRuntime) -> anyhow::Result<()> {
+fn main(rt: HostRuntime) -> anyhow::Result<()> {
     let heap = rt.alloc();
     let mut all = make_searchers(heap)?;
-    let mut agree = 0usize;
-    let mut differ = 0usize;
-    for line in BufReader::new(heap, rt.stdin())?.lines(heap) {
-        let line = line?;
-        if line_agrees(heap, &mut all, line.as_str())? {
-            agree = agree.saturating_add(1);
-        } else {
-            differ = differ.saturating_add(1);
-            println!(rt; "differs: {line}")?;
-        }
-    }
-    println!(rt; "{agree} agree, {differ} differ")?;
+    let lines = BufReader::new(heap, rt.stdin())?.lines(heap);
+    let tally = compare(&rt, lines, |line| line_agrees(heap, &mut all, line))?;
+    println!(rt; "{tally}")?;
     Ok(())
-}
-
-fn main(rt: HostRuntime) -> anyhow::Result<()> {
-    run(&rt)
 }

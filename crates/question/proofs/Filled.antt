@@ -1,8 +1,8 @@
 -- A table that the records of gates fill. Assumes nothing.
-use Rattle.std.proofs.Common.{◌≡◌, ℕ, zero, suc, ◌+◌, ◌-◌, ◌*◌, ◌<◌, ◌≤◌, ltb, List, [], ◌∷◌, ◌++◌, length, get_or, drop, set, replicate, sym, refl, ap, ◌∙◌, subst, inl, inr, mul-suc, arith}
+use Rattle.std.proofs.Common.{◌≡◌, ℕ, zero, suc, ◌+◌, ◌-◌, ◌*◌, ◌<◌, ◌≤◌, ltb, List, [], ◌∷◌, ◌++◌, length, get_or, drop, replicate, sym, refl, ap, ◌∙◌, inl, inr, mul-suc, arith}
 use Rattle.std.specs.List.{flat_map}
-use Rattle.std.proofs.lemmas.List.{get_or-set_same, get_or-set_other, get_or_append_left, get_or-append_right, get_or-append-add, get_or-replicate, length-append, length-replicate, ext_get_or, append_assoc, drop_at, length-drop, get_or-drop}
-use Rattle.std.proofs.lemmas.Bool.{cases_lt, cases_eq, lt-ltb, le-ltb, cond-true, cond-false}
+use Rattle.std.proofs.lemmas.List.{get_or_append_left, get_or-append_right, get_or-append-add, get_or-replicate, length-append, length-replicate, ext_get_or, append_assoc, drop_at, length-drop, get_or-drop}
+use Rattle.std.proofs.lemmas.Bool.{cases_lt, lt-ltb, le-ltb, cond-true, cond-false}
 use Rattle.valuation.specs.Circuit.{Pair, blank, gate}
 use Rattle.circuit.specs.declared.Gate.{Gate}
 use Rattle.circuit.specs.Gates.{empty}
@@ -10,15 +10,6 @@ use Rattle.question.specs.Formula.{Formula, block_bytes, gate_bytes, output_byte
 use Rattle.question.specs.Rules.{word}
 use Rattle.question.specs.Loading.{pair_at, entry_of, cells}
 use Rattle.question.proofs.Reading.{recovered}
-
--- one entry more
-pub each_more : (P : ℕ → Gate → Type 0) (t : List Gate) (i : ℕ) (g : Gate) → i < length t → P i g → ((k : ℕ) → k < i → P k (get_or t k empty)) →
-    (k : ℕ) → k < i + 1 → P k (get_or (set t i g) k empty)
-each_more P t i g inside here before k lt =
-    elim (cases_eq k i) [
-      | inl same ↦ subst (λ n. P n (get_or (set t i g) n empty)) (sym same) (subst (P i) (sym (get_or-set_same t i g empty inside)) here)
-      | inr other ↦ subst (P k) (sym (get_or-set_other t i k g empty other)) (before k (omega (arith, other)))
-    ]
 
 -- the k-th record of gates
 word_later : (xs ys : List ℕ) (i : ℕ) → word (xs ++ ys) (length xs + i) ≡ word ys i

@@ -9,12 +9,12 @@ use Rattle.circuit.specs.declared.Gate.{Gate}
 use Rattle.circuit.specs.Gates.{pair, pairs, empty}
 use Rattle.question.specs.declared.prefix.Block.{Block}
 use Rattle.question.specs.Formula.{Formula, WellFormed, formula_of, output_bytes}
-use Rattle.question.specs.declared.judging.Outline.{Outline}
+use Rattle.question.specs.declared.frame.Frame.{Frame}
 use Rattle.question.specs.Rules.{blocks_of}
 use Rattle.question.specs.Judging.{Right, Outlined, judgement}
 use Rattle.question.specs.declared.records.Refusal.TheVariants.{TableSize}
-use Rattle.question.specs.Loading.{Entry, entry_of, cells, unfit, accepted, refused, loaded_as, loaded}
-use Rattle.question.proofs.Filled.{gates_begin, long, filled, free_from}
+use Rattle.question.specs.Loading.{Entry, Fitted, entry_of, cells, unfit, accepted, refused, loaded_as, loaded}
+use Rattle.question.proofs.Filled.{gates_begin, long, filled as filled_by, free_from}
 
 -- what a table holds that the records of a formula's gates have filled, and the formula that it keeps
 module _ (bytes : List ℕ) (f : Formula) (right : Right bytes (Ok f)) (bs : List Block) (n l : ℕ) (blocks : bs ≡ f.blocks) (gates : n ≡ length f.gates) (output : l ≡ f.output)
@@ -22,7 +22,7 @@ module _ (bytes : List ℕ) (f : Formula) (right : Right bytes (Ok f)) (bs : Lis
     (each : (k : ℕ) → k < length table → Entry records n k (get_or table k empty)) where
   pub held : pairs table ≡ cells f (length table)
   held =
-      filled f (length table) records (output_bytes f.output) (pairs table) (begins ∙ ap (λ cs. drop (7 * length cs) bytes) blocks ∙ gates_begin f bytes right.1) (length-map table pair)
+      filled_by f (length table) records (output_bytes f.output) (pairs table) (begins ∙ ap (λ cs. drop (7 * length cs) bytes) blocks ∙ gates_begin f bytes right.1) (length-map table pair)
       (subst (λ m. m ≤ length table) gates room) (λ k lt. get_or-map pair table k empty blank lt ∙ (each k lt).0 ∙ ap (λ m. entry_of records m k) gates)
 
   pub keeps : formula_of bs (pairs table) n l ≡ f
@@ -38,12 +38,12 @@ module _ (bytes : List ℕ) (f : Formula) (right : Right bytes (Ok f)) (bs : Lis
   pub free : drop n table ≡ replicate (length table - n) empty
   free = free_from n table (λ k past lt. (each k lt).1 past)
 
--- the bytes have room for what their outline says
-pub bytes_long : (bytes : List ℕ) (o : Outline) → Outlined bytes o → length bytes ≡ 7 * length (blocks_of o.prefix) + 8 * o.gates + 6
+-- the bytes have room for what their frame says
+pub bytes_long : (bytes : List ℕ) (o : Frame) → Outlined bytes o → length bytes ≡ 7 * length (blocks_of o.prefix) + 8 * o.gates + 6
 bytes_long bytes o d = long d.formula bytes d.right.1 ∙ ap (λ cs. 7 * length cs + 8 * length d.formula.gates + 6) (sym d.blocks) ∙ ap (λ m. 7 * length (blocks_of o.prefix) + 8 * m + 6) (sym d.gates)
 
--- what holds of a question that is made of an outline and a filled table, v before
-pub record Made (bytes : List ℕ) (o : Outline) (v table : Vec Gate Global) : Type 0 where
+-- what holds of a question that is made of a frame and a filled table, v before
+pub record Made (bytes : List ℕ) (o : Frame) (v table : Vec Gate Global) : Type 0 where
   pub room : o.gates ≤ vec_len v
   pub small : vec_len v ≤ 8000
   pub free : drop o.gates (vec_items table) ≡ replicate (vec_len v - o.gates) empty
@@ -52,18 +52,27 @@ pub record Made (bytes : List ℕ) (o : Outline) (v table : Vec Gate Global) : T
   pub result : accepted (formula_of (blocks_of o.prefix) (pairs (vec_items table)) o.gates o.output.code) (pairs (vec_items table)) ≡ loaded bytes (vec_items v)
   pub right : Right bytes (judgement bytes)
 
--- ws is what v holds once it is filled in place
-module _ (bytes : List ℕ) (o : Outline) (d : Outlined bytes o) (v : Vec Gate Global) (ws : List Gate) (size : length ws ≡ vec_len v) (fit : unfit o.gates (vec_len v) ≡ false)
-    (first : ℕ) (at : first ≡ 7 * length (blocks_of o.prefix))
-    (each : (k : ℕ) → k < length ws → Entry (take (length bytes - first) (drop first bytes)) o.gates k (get_or ws k empty)) where
+-- ws is what v holds once it is filled in place, from where the records of the gates begin in the bytes
+module _ (bytes : List ℕ) (o : Frame) (v : Vec Gate Global) (entries : ℕ) (fitted : Fitted bytes entries (Ok o)) (whole : entries ≡ vec_len v)
+    (bs : List Block) (blocks : bs ≡ blocks_of o.prefix) (n : ℕ) (gates : n ≡ o.gates) (ws : List Gate) (size : length ws ≡ vec_len v)
+    (filled : (k : ℕ) → k < length ws → Entry (take (length bytes - 7 * length bs) (drop (7 * length bs) bytes)) n k (get_or ws k empty)) where
+  d : Outlined bytes o
+  d = fitted.0
+
+  fit : unfit o.gates (vec_len v) ≡ false
+  fit = ap (unfit o.gates) (sym whole) ∙ fitted.1
+
+  each : (k : ℕ) → k < length ws → Entry (take (length bytes - 7 * length bs) (drop (7 * length bs) bytes)) o.gates k (get_or ws k empty)
+  each = subst (λ m. (k : ℕ) → k < length ws → Entry (take (length bytes - 7 * length bs) (drop (7 * length bs) bytes)) m k (get_or ws k empty)) gates filled
+
   same : vec_items (with_items v ws) ≡ ws
   same = with_items_is v ws size
 
   room : (o.gates ≤ vec_len v) × (vec_len v ≤ 8000)
   room = let p = or_parts (ltb (vec_len v) o.gates) (ltb 8000 (vec_len v)) fit in (ltb-false _ _ p.0, ltb-false _ _ p.1)
 
-  records : take (length bytes - first) (drop first bytes) ≡ drop (7 * length (blocks_of o.prefix)) bytes
-  records = take_rest bytes first ∙ ap (λ n. drop n bytes) at
+  records : take (length bytes - 7 * length bs) (drop (7 * length bs) bytes) ≡ drop (7 * length (blocks_of o.prefix)) bytes
+  records = take_rest bytes (7 * length bs) ∙ ap (λ cs. drop (7 * length cs) bytes) blocks
 
   inside : o.gates ≤ length ws
   inside = subst (λ n. o.gates ≤ n) (sym size) room.0

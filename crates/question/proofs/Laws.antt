@@ -9,7 +9,6 @@ use Rattle.question.specs.Formula.{Formula, WellFormed, Encodes, encode}
 use Rattle.question.specs.Judging.{judgement, Breaks, Right}
 use Rattle.question.specs.Loading.{Loaded, accepted, refused, cells, unfit, loaded_as, loaded, Room, Faulty, AcceptedExactly, RefusedExactly, OneEncoding}
 use Rattle.question.proofs.Reading.{accepts, refuses}
-use Rattle.question.proofs.Never.{impossible}
 
 -- the test of a table's size
 roomy : (f : Formula) (entries : ℕ) → unfit (length f.gates) entries ≡ false → Room f entries
@@ -19,7 +18,7 @@ fits : (f : Formula) (entries : ℕ) → Room f entries → unfit (length f.gate
 fits f entries r = or_from _ _ (le-ltb entries (length f.gates) r.0) (le-ltb 8000 entries r.1)
 
 cramped : (f : Formula) (entries : ℕ) → unfit (length f.gates) entries ≡ true → Room f entries → ⊥
-cramped f entries h r = let z : true ≡ false = sym h ∙ fits f entries r in impossible (cc)
+cramped f entries h r = let z : true ≡ false = sym h ∙ fits f entries r in absurd (cc)
 
 tight : (f : Formula) (entries : ℕ) → (Room f entries → ⊥) → unfit (length f.gates) entries ≡ true
 tight f entries never = elim (cases_Bool (unfit (length f.gates) entries)) [ inl small ↦ small | inr large ↦ absurd (never (roomy f entries large)) ]
@@ -34,12 +33,12 @@ module _ (bytes : List ℕ) (table : List Gate) where
 
   accepted_from : (j : Result Formula Refusal) → Right bytes j → (f : Formula) (after : List Pair) → loaded_as j table ≡ accepted f after →
       WellFormed f × Encodes f bytes × Room f (length table) × (after ≡ cells f (length table))
-  accepted_from (Err why) r f after h = impossible (cc)
+  accepted_from (Err why) r f after h = absurd (cc)
   accepted_from (Ok g) r f after h =
       elim (cases_Bool (unfit (length g.gates) (length table))) [
         | inl small ↦
             let e : refused TableSize table ≡ accepted f after = sym (cond-true _ (refused TableSize table) (accepted g (cells g (length table))) small) ∙ h in
-            impossible (cc)
+            absurd (cc)
         | inr large ↦ accepted_by g f after r large (sym (cond-false _ (refused TableSize table) (accepted g (cells g (length table))) large) ∙ h)
       ]
 
@@ -58,7 +57,7 @@ module _ (bytes : List ℕ) (table : List Gate) where
             (held, inr (same, (g, r.0, r.1, cramped g (length table) small)))
         | inr large ↦
             let e : accepted g (cells g (length table)) ≡ refused why after = sym (cond-false _ (refused TableSize table) (accepted g (cells g (length table))) large) ∙ h in
-            impossible (cc)
+            absurd (cc)
       ]
 
   refused_by : (why : Refusal) → Faulty bytes (length table) why → loaded bytes table ≡ refused why table

@@ -13,7 +13,6 @@ use Rattle.question.specs.declared.records.Record.{Record}
 use Rattle.question.specs.declared.records.Record.TheVariants.{Block as block, Gate as gate, Output as output}
 use Rattle.question.specs.Blocks.{block_at, total}
 use Rattle.question.specs.Rules.{word, kind_of, body, misplaced, outside, quantifier_of, same, repeats, limit, content_rules, kind_rules, rules, first, record_of, record_at, unless, next}
-use Rattle.question.proofs.Never.{impossible}
 
 -- a block that may follow others
 pub record Admits (bs : List Block) (b : Block) : Type 0 where
@@ -38,15 +37,15 @@ pub record Ends (bs : List Block) (n l : ℕ) (rest : List ℕ) : Type 0 where
 
 unless_ok : {X : Type 0} (o : Option Refusal) (x y : X) → unless o x ≡ Ok y → (o ≡ None) × (x ≡ y)
 unless_ok None x y h = (refl, cc)
-unless_ok (Some why) x y h = impossible (cc)
+unless_ok (Some why) x y h = absurd (cc)
 
 first_none : (why : Refusal) (b : Bool) (rs : List (Refusal × Bool)) → first ((why, b) ∷ rs) ≡ None → (b ≡ false) × (first rs ≡ None)
 first_none why false rs h = (refl, h)
-first_none why true rs h = impossible (cc)
+first_none why true rs h = absurd (cc)
 
 pub first_later : (why : Refusal) (b : Bool) (rs : List (Refusal × Bool)) → b ≡ false → first rs ≡ None → first ((why, b) ∷ rs) ≡ None
 first_later why false rs e h = h
-first_later why true rs e h = impossible (cc)
+first_later why true rs e h = absurd (cc)
 
 -- a record in its place that breaks no rule
 pub record Placed (bs : List Block) (n : ℕ) (rest : List ℕ) (k : Kind) : Type 0 where
@@ -58,7 +57,7 @@ pub record Placed (bs : List Block) (n : ℕ) (rest : List ℕ) (k : Kind) : Typ
 module _ (bs : List Block) (n : ℕ) (rest : List ℕ) where
   placed_by : (o : Option Kind) → kind_of (word rest 2) (word rest 0) ≡ o → first (kind_rules o bs n rest) ≡ None →
       (k : Kind) × (o ≡ Some k) × Placed bs n rest k
-  placed_by None e h = impossible (cc)
+  placed_by None e h = absurd (cc)
   placed_by (Some k) e h =
       let a = first_none Misplaced (misplaced k bs n) ((Incomplete, ltb (length rest) (4 + body k)) ∷ content_rules k bs n rest) h in
       let b = first_none Incomplete (ltb (length rest) (4 + body k)) (content_rules k bs n rest) a.1 in
@@ -100,10 +99,10 @@ inside bs byte b h a =
     (or_from _ _ (le-ltb 40 b.size a.few) (or_from _ _ (le-ltb 128 (total bs + b.size) a.small) (le-ltb 15 (length bs) (omega (arith, a.room))))))
 
 same_false : (p q : Quantifier) → same p q ≡ false → p ≢ q
-same_false Existential Existential h = λ e. impossible (cc)
-same_false Existential Universal h = λ e. impossible (cc)
-same_false Universal Existential h = λ e. impossible (cc)
-same_false Universal Universal h = λ e. impossible (cc)
+same_false Existential Existential h = λ e. absurd (cc)
+same_false Existential Universal h = λ e. absurd (cc)
+same_false Universal Existential h = λ e. absurd (cc)
+same_false Universal Universal h = λ e. absurd (cc)
 
 differ : (p q : Quantifier) → p ≢ q → same p q ≡ false
 differ Existential Existential h = absurd (h refl)
@@ -138,8 +137,8 @@ module _ (bs : List Block) (n : ℕ) (rest : List ℕ) where
           differs = λ some. subst (λ q. (block_at bs (length bs - 1)).quantifier ≢ q) quantifiers (repeats_false bs (quantifier_of byte) r.0 some);
         },
       )
-  block_from b kind.Gate p e = impossible (cc)
-  block_from b kind.Output p e = impossible (cc)
+  block_from b kind.Gate p e = absurd (cc)
+  block_from b kind.Output p e = absurd (cc)
 
   pub block_step : (b : Block) → next bs n rest ≡ Ok (block b) → (n ≡ 0) × Admits bs b
   block_step b h = let p = placed bs n rest (block b) h in block_from b p.0 p.1 p.2
@@ -158,8 +157,8 @@ module _ (bs : List Block) (n : ℕ) (rest : List ℕ) where
         left = rw left (ltb-true _ _ (not-false _ q.0));
         right = rw right (ltb-true _ _ (not-false _ q.1));
       }
-  gate_from l r kind.Block p e = impossible (cc)
-  gate_from l r kind.Output p e = impossible (cc)
+  gate_from l r kind.Block p e = absurd (cc)
+  gate_from l r kind.Output p e = absurd (cc)
 
   pub gate_step : (l r : Literal) → next bs n rest ≡ Ok (gate l r) → Reads bs n l.code r.code
   gate_step l r h = let p = placed bs n rest (gate l r) h in gate_from l r p.0 p.1 p.2
@@ -174,8 +173,8 @@ module _ (bs : List Block) (n : ℕ) (rest : List ℕ) where
         literal = rw literal (ltb-true _ _ (not-false _ o.0));
         last = omega (arith, p.whole, ltb-false 6 (length rest) (first_none Misplaced (ltb 6 (length rest)) [] o.1).0);
       }
-  output_from l kind.Block p e = impossible (cc)
-  output_from l kind.Gate p e = impossible (cc)
+  output_from l kind.Block p e = absurd (cc)
+  output_from l kind.Gate p e = absurd (cc)
 
   pub output_step : (l : Literal) → next bs n rest ≡ Ok (output l) → Ends bs n l.code rest
   output_step l h = let p = placed bs n rest (output l) h in output_from l p.0 p.1 p.2

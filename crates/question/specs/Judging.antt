@@ -8,7 +8,7 @@ use Rattle.question.specs.declared.records.Refusal.TheVariants.{Incomplete}
 use Rattle.question.specs.declared.records.Record.{Record}
 use Rattle.question.specs.declared.records.Record.TheVariants.{Block as block, Gate as gate, Output as output}
 use Rattle.question.specs.Formula.{Formula, Good, WellFormed, Encodes, written, block_bytes, gate_bytes, output_bytes}
-use Rattle.question.specs.declared.judging.Outline.{Outline}
+use Rattle.question.specs.declared.frame.Frame.{Frame}
 use Rattle.question.specs.Rules.{blocks_of, rules, first, next}
 
 -- a gate's two literals as numbers
@@ -56,8 +56,8 @@ abbrev pub Right : List ℕ → Result Formula Refusal → Type 0
 Right bytes (Ok f) = WellFormed f × Encodes f bytes
 Right bytes (Err why) = Breaks bytes why
 
--- the outline of the formula that the definition gives, and it is right
-pub record Outlined (bytes : List ℕ) (o : Outline) : Type 0 where
+-- the frame of the formula that the definition gives, and it is right
+pub record Outlined (bytes : List ℕ) (o : Frame) : Type 0 where
   pub formula : Formula
   pub judgement : judgement bytes ≡ Ok formula
   pub right : Right bytes (Ok formula)
@@ -66,6 +66,6 @@ pub record Outlined (bytes : List ℕ) (o : Outline) : Type 0 where
   pub output : o.output.code ≡ formula.output
 
 -- what judging bytes in code promises
-abbrev pub Outlines : List ℕ → Result Outline Refusal → Type 0
+abbrev pub Outlines : List ℕ → Result Frame Refusal → Type 0
 Outlines bytes (Ok o) = Outlined bytes o
 Outlines bytes (Err why) = (judgement bytes ≡ Err why) × Right bytes (Err why)

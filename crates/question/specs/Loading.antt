@@ -1,15 +1,16 @@
 -- What a load gives and leaves, and when.
-use Rattle.std.specs.Prelude.{◌≡◌, ℕ, ◌+◌, ◌-◌, ◌*◌, ◌≤◌, Bool, cond, ◌||◌, ◌⊎◌, ◌↔◌, List, ◌++◌, length, replicate, Ok, Err, vec_items, Result, nat_lt}
+use Rattle.std.specs.Prelude.{◌≡◌, ℕ, ◌+◌, ◌-◌, ◌*◌, ◌≤◌, Bool, false, cond, ◌||◌, ◌⊎◌, ◌↔◌, List, ◌++◌, length, replicate, Ok, Err, vec_items, Result, nat_lt}
 use Rattle.valuation.specs.Circuit.{Pair, blank}
 use Rattle.circuit.specs.declared.Gate.{Gate}
 use Rattle.circuit.specs.Gates.{empty, pair, pairs}
+use Rattle.question.specs.declared.frame.Frame.{Frame}
 use Rattle.question.specs.declared.question.Question.{Question}
 use Rattle.question.specs.declared.loading.Rejected.{Rejected}
 use Rattle.question.specs.declared.records.Refusal.{Refusal}
 use Rattle.question.specs.declared.records.Refusal.TheVariants.{TableSize}
 use Rattle.question.specs.Formula.{Formula, WellFormed, Encodes, encode}
 use Rattle.question.specs.Rules.{word}
-use Rattle.question.specs.Judging.{judgement, Breaks}
+use Rattle.question.specs.Judging.{judgement, Right, Outlined, Breaks}
 use Rattle.question.specs.Questions.{formula}
 
 -- the gate whose record is the k-th
@@ -46,6 +47,11 @@ unfit gates entries = nat_lt entries gates || nat_lt 8000 entries
 abbrev pub loaded_as : Result Formula Refusal → List Gate → Loaded
 loaded_as (Err why) table = refused why table
 loaded_as (Ok f) table = cond (unfit (length f.gates) (length table)) (refused TableSize table) (accepted f (cells f (length table)))
+
+-- what judging bytes in code for a table with so many entries promises
+abbrev pub Fitted : List ℕ → ℕ → Result Frame Refusal → Type 0
+Fitted bytes entries (Ok o) = Outlined bytes o × (unfit o.gates entries ≡ false)
+Fitted bytes entries (Err why) = Right bytes (judgement bytes) × ((table : List Gate) → length table ≡ entries → loaded_as (judgement bytes) table ≡ refused why table)
 
 -- what loading bytes into a table gives
 abbrev pub loaded : List ℕ → List Gate → Loaded

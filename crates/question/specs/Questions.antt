@@ -8,11 +8,11 @@ use Rattle.question.specs.Rules.{blocks_of}
 
 -- the records of its gates
 abbrev pub gates_of : Question → List Gate
-gates_of q = take q.gates (vec_items q.table)
+gates_of q = take q.frame.gates (vec_items q.table)
 
 -- its formula
 abbrev pub formula : Question → Formula
-formula q = formula_of (blocks_of q.prefix) (pairs (vec_items q.table)) q.gates q.output.code
+formula q = formula_of (blocks_of q.frame.prefix) (pairs (vec_items q.table)) q.frame.gates q.frame.output.code
 
 -- whatever takes a question need not check it again
 abbrev pub AlwaysWellFormed : Type 0

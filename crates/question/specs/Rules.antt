@@ -35,6 +35,10 @@ word bs i = slice_index bs i + 256 * slice_index bs (i + 1)
 abbrev pub kind_of : ℕ → ℕ → Option Kind
 kind_of k n = cond (k == 1 && n == 3) (Some kind.Block) (cond (k == 2 && n == 4) (Some kind.Gate) (cond (k == 3 && n == 2) (Some kind.Output) None))
 
+-- the kind of a number, if there is one
+abbrev pub kind_read : ℕ → Result Kind Refusal
+kind_read k = cond (k == 1) (Ok kind.Block) (cond (k == 2) (Ok kind.Gate) (cond (k == 3) (Ok kind.Output) (Err Malformed)))
+
 -- the length of a record's body
 abbrev pub body : Kind → ℕ
 body kind.Block = 3
@@ -56,8 +60,8 @@ abbrev pub quantifier_of : ℕ → Quantifier
 quantifier_of byte = cond (byte == 0) Existential Universal
 
 -- the quantifier of a byte, if it is 0 or 1
-abbrev pub quantifier_named : ℕ → Option Quantifier
-quantifier_named byte = cond (nat_lt 1 byte) None (Some (quantifier_of byte))
+abbrev pub quantifier_read : ℕ → Result Quantifier Refusal
+quantifier_read byte = cond (nat_lt 1 byte) (Err BlockLimits) (Ok (quantifier_of byte))
 
 -- the same quantifier
 abbrev pub same : Quantifier → Quantifier → Bool

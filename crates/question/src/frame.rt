@@ -12,9 +12,10 @@ use circuit::{Gate, Literal};
 // The blocks, how many gates there are, and the output, all that a well-formed formula has but the gates themselves.
 #[derive(Clone, Copy)]
 pub struct Frame {
-    prefix: Prefix,
-    gates: usize,
-    output: Literal,
+    pub(super) prefix: Prefix,
+    // how many gates
+    pub(super) gates: usize,
+    pub(super) output: Literal,
     ghost some: { 0 < length (blocks_of prefix) },
     ghost sized: { Sized (blocks_of prefix) },
     ghost alternating: { Alternating (blocks_of prefix) },
@@ -59,17 +60,10 @@ impl Frame {
         requires small { vec_len table ≤ 8000 }
         requires free { drop self.gates table.items ≡ replicate (vec_len table - self.gates) empty }
         requires ascending { Ascending (1 + total (blocks_of self.prefix)) (take self.gates (pairs table.items)) }
-        ensures prefix { result.prefix ≡ self.prefix }
-        ensures gates { result.gates ≡ self.gates }
-        ensures output { result.output ≡ self.output }
+        ensures frame { result.frame ≡ self }
         ensures table { result.table ≡ table }
     {
-        Question {
-            prefix: self.prefix,
-            gates: self.gates,
-            output: self.output,
-            table,
-        }
+        Question { frame: self, table }
     }
 }
 
@@ -83,24 +77,10 @@ impl Question {
 
     // Takes the question apart: its frame, and its gate table.
     pub fn split(self) -> (Frame, Vec<Gate>)
-        ensures prefix { result.0.prefix ≡ self.prefix }
-        ensures gates { result.0.gates ≡ self.gates }
-        ensures output { result.0.output ≡ self.output }
+        ensures frame { result.0 ≡ self.frame }
         ensures table { result.1 ≡ self.table }
     {
-        let Question {
-            prefix,
-            gates,
-            output,
-            table,
-        } = self;
-        (
-            Frame {
-                prefix,
-                gates,
-                output,
-            },
-            table,
-        )
+        let Question { frame, table } = self;
+        (frame, table)
     }
 }

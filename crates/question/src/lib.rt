@@ -1,6 +1,7 @@
 // A question: a prenex quantified Boolean formula over and-gates, and the loader that reads one from bytes.
 #![tactic(auto)]
 
+mod beginning;
 mod frame;
 mod judging;
 mod loading;

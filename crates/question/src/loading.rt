@@ -1,8 +1,9 @@
 // Loading a question from bytes into the caller's gate table.
 ghost use Rattle.std.specs.Prelude.{◌≡◌, ℕ, ◌*◌, ◌<◌, ◌≤◌, length, slice_index_or};
 ghost use Rattle.circuit.specs.Gates.{empty};
-ghost use Rattle.question.specs.Loading.{Entry, unfit, shown, loaded, AcceptedExactly, RefusedExactly, OneEncoding};
+ghost use Rattle.question.specs.Loading.{Entry, Fitted, unfit, shown, loaded, AcceptedExactly, RefusedExactly, OneEncoding};
 
+use super::frame::Frame;
 use super::judging::judge;
 use super::question::Question;
 use super::records::{Refusal, literals};
@@ -20,6 +21,17 @@ fn unfit(gates: usize, entries: usize) -> bool
     ensures { result ≡ unfit gates entries }
 {
     entries < gates || entries > 8000
+}
+
+// The frame that the bytes have, where a table with so many entries allows its gates.
+fn fitted(bytes: &[u8], entries: usize) -> Result<Frame, Refusal>
+    ensures { Fitted bytes.now entries result }
+{
+    let frame = judge(bytes)?;
+    if unfit(frame.gates(), entries) {
+        return Err(Refusal::TableSize);
+    }
+    Ok(frame)
 }
 
 // The gate at a place of the table: that of the record there, or zeros after the last.
@@ -52,20 +64,12 @@ pub fn load(bytes: &[u8], mut table: Vec<Gate>) -> Result<Question, Rejected>
     ensures refused_exactly { RefusedExactly bytes.now table.items (shown result) }
     ensures one_encoding { OneEncoding }
 {
-    let outline = match judge(bytes) {
-        Ok(outline) => outline,
-        Err(refusal) => return Err(Rejected { refusal, table }),
-    };
-    if unfit(outline.gates, table.len()) {
-        let refusal = Refusal::TableSize;
-        return Err(Rejected { refusal, table });
+    match fitted(bytes, table.len()) {
+        Ok(frame) => {
+            let first = 7 * frame.blocks().len();
+            fill(&mut table[..], frame.gates(), &bytes[first..]);
+            Ok(frame.join(table))
+        }
+        Err(refusal) => Err(Rejected { refusal, table }),
     }
-    let first = 7 * outline.prefix.blocks().len();
-    fill(&mut table[..], outline.gates, &bytes[first..]);
-    Ok(Question {
-        prefix: outline.prefix,
-        gates: outline.gates,
-        output: outline.output,
-        table,
-    })
 }

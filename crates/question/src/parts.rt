@@ -13,14 +13,14 @@ impl Question {
     pub fn blocks(&self) -> &[Block]
         ensures { result.now ≡ (formula self.now).blocks }
     {
-        self.prefix.blocks()
+        self.frame.blocks()
     }
 
     // How many variables there are: they are the nodes from 1 on, in the order of the blocks.
     pub fn variables(&self) -> usize
         ensures { result ≡ total (formula self.now).blocks }
     {
-        self.prefix.variables()
+        self.frame.variables()
     }
 
     // The gates: their nodes follow those of the variables.
@@ -28,26 +28,18 @@ impl Question {
         ensures records { result.now ≡ gates_of self.now }
         ensures literals { pairs result.now ≡ (formula self.now).gates }
     {
-        self.records()
-    }
-
-    fn records(&self) -> &[Gate]
-        ensures { result.now ≡ gates_of self.now }
-    {
-        &self.table[0..self.gates]
+        &self.table[..self.frame.gates]
     }
 
     // The output literal, the matrix.
     pub fn output(&self) -> Literal
         ensures { result.code ≡ (formula self.now).output }
     {
-        self.output
+        self.frame.output()
     }
 }
 
 // Every question is well formed.
-pub fn always_well_formed() -> u8
+pub fn always_well_formed()
     ensures { AlwaysWellFormed }
-{
-    0
-}
+{}
