@@ -63,3 +63,9 @@ core_of (loses core) n = core
 -- the marks after a query: the core of a no move, else none
 abbrev pub marks_after : Answer → ℕ → ℕ → List Bool
 marks_after a allowance n = cond (nat_lt allowance a.need) (replicate n false) (core_of a.outcome n)
+
+-- The reply to a query, with the range and the marks after it, as an answer has them.
+pub record Answered (a : Answer) (allowance nodes free : ℕ) (range : List Value) (marks : List Bool) (r : Reply) : Type 0 where
+  pub reply : r ≡ reply_of a allowance
+  pub set : range ≡ range_after a allowance free
+  pub marked : marks ≡ marks_after a allowance nodes

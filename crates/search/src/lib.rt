@@ -1,15 +1,19 @@
 // Searchers: what answers whether some setting of a block leaves a root not false, and what every searcher keeps.
 #![tactic(auto)]
 
-ghost use Rattle.std.specs.Prelude.{◌≡◌, ◌-◌, ◌<◌, false, length, replicate};
+ghost use Rattle.std.specs.Prelude.{◌≡◌, ◌+◌, ◌^◌, ◌<◌, false, length, replicate};
 ghost use Rattle.valuation.specs.declared.Value.TheVariants.{Unknown};
 ghost use Rattle.search.specs.Queries.{Query, Sound};
 ghost use Rattle.search.specs.Asking.{asked};
 ghost use Rattle.search.specs.Answers.{Answer, Keeps, reply_of, range_after, marks_after};
+ghost use Rattle.search.specs.Replies.{later as later_by, steps_of};
 ghost use Rattle.search.specs.Examples.{BothOutcomes};
 
 use circuit::{Gate, Literal};
 use valuation::Value;
+
+// The most nodes of a circuit: the constant, 128 variables and 8,000 gates. A searcher has memory for as many.
+pub const NODES: usize = 1 + 128 + 8000;
 
 // A query, but for the lists that a searcher may write: is there a setting of the range under which the root is not false?
 #[derive(Clone, Copy)]
@@ -32,6 +36,20 @@ pub enum Reply {
     Move(u64),
     NoMove(u64),
     Spent,
+}
+
+impl Reply {
+    // The reply, with some steps more.
+    pub fn later(self, steps: u64) -> Reply
+        requires { steps + steps_of self < 2 ^ 64 }
+        ensures { result ≡ later_by steps self }
+    {
+        match self {
+            Reply::Move(need) => Reply::Move(steps + need),
+            Reply::NoMove(need) => Reply::NoMove(steps + need),
+            Reply::Spent => Reply::Spent,
+        }
+    }
 }
 
 pub trait Searcher {
@@ -59,8 +77,6 @@ pub trait Searcher {
 }
 
 // Sound queries exist, with either outcome.
-pub fn both_outcomes() -> u8
+pub fn both_outcomes()
     ensures { BothOutcomes }
-{
-    0
-}
+{}
