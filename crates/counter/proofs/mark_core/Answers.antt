@@ -4,7 +4,7 @@ use Rattle.valuation.specs.Circuit.{reads}
 use Rattle.valuation.specs.Reach.{reach}
 use Rattle.circuit.specs.Gates.{pairs}
 use Rattle.circuit.proofs.Records.{length_pairs}
-use Rattle.counting.specs.Counting.{forced_of}
+use Rattle.search.specs.Answers.{forced_of}
 use Rattle.counter.proofs.mark_core.Goals as goal
 
 pub mark_reached-requires : goal.mark_reached-requires
@@ -27,5 +27,5 @@ returns c =
     let n = length_pairs c.args.ask.gates.now in
     let end : length c.args.marks.now ≤ 1 + c.args.ask.variables + length c.args.ask.gates.now = omega (arith, c.requires.sound.covered, ap length c.requires.unmarked, length-replicate (length c.args.forced.now) false) in
     c.keep_forced.ensures
-    ∙ ap (λ ms. forced_of ms c.args.forced.now)
+    ∙ ap (λ ms. forced_of ms (reads c.args.forced.now) (length c.args.forced.now))
     (c.mark_reached.ensures ∙ ap (λ ms. reach (1 + c.args.ask.variables) (pairs c.args.ask.gates.now) (reads c.args.forced.now) (c.args.ask.root.code / 2) ++ ms) (drop_all _ c.args.marks.now end) ∙ append-nil _)
