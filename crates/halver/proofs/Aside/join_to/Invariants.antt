@@ -1,5 +1,5 @@
 use Rattle.std.proofs.Common.{◌≡◌, ℕ, ◌<◌, ◌≤◌, false, ◌||◌, get_or}
-use Rattle.halver.proofs.join.Given as goal
+use Rattle.halver.proofs.Aside.join_to.Given as goal
 
 -- below n the marks are joined, and from it on they are as they were
 abbrev pub invariant-loop-n : goal.invariant-loop-n
