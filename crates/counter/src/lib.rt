@@ -13,9 +13,8 @@ ghost use Rattle.counting.specs.Counting.{setting, refutes, first_open, groups, 
 ghost use Rattle.counting.proofs.Kept.{counts_keep};
 
 use circuit::kinds::{Kind, Wide};
-use circuit::reaching::mark_reached;
-use circuit::walking::evaluate;
-use inputs::{cases_that_count, set_group};
+use circuit::walking::set_inputs_by;
+use inputs::{cases_that_count, variable_in_group};
 use search::{Ask, NODES, Reply, Searcher};
 use std::alloc::{AllocError, Global};
 use valuation::Value;
@@ -36,9 +35,16 @@ fn open_cases(ask: Ask<'_>, forced: &[Value], free: usize, group: u64, values: &
     requires room { NODES ≤ length values.old }
     ensures { (c : ℕ) → c < 64 → on result c ≡ (nat_lt c (2 ^ free) && not (refutes (asked ask.entry forced.now free) (64 * group + c))) }
 {
-    let first = 1 + ask.variables;
-    set_group(forced, ask.start, free, group, &mut values[0..first]);
-    let root = evaluate(ask.gates, forced, first, ask.root, values);
+    let circuit = ask.circuit();
+    let in_group = |k: usize| variable_in_group(k, group);
+    set_inputs_by(
+        forced,
+        ask.start,
+        free,
+        in_group,
+        &mut values[..circuit.first],
+    );
+    let root = circuit.evaluate(forced, ask.root, values);
     cases_that_count(free) & !root.false_cases()
 }
 
@@ -92,7 +98,7 @@ fn mark_core(ask: Ask<'_>, forced: &[Value], free: usize, marks: &mut [bool])
     requires unmarked { marks.old ≡ replicate (length forced.now) false }
     ensures { marks.new ≡ core (asked ask.entry forced.now free) }
 {
-    mark_reached(ask.gates, forced, 1 + ask.variables, ask.root, marks);
+    ask.circuit().mark_reached(forced, ask.root, marks);
     keep_forced(forced, marks);
 }
 

@@ -1,7 +1,9 @@
 // Searchers: what answers whether some setting of a block leaves a root not false, and what every searcher keeps.
 #![tactic(auto)]
 
-ghost use Rattle.std.specs.Prelude.{◌≡◌, ◌+◌, ◌^◌, ◌<◌, false, length, replicate};
+ghost use Rattle.std.specs.Prelude.{◌≡◌, ◌+◌, ◌^◌, ◌<◌, ◌≤◌, false, length, replicate};
+ghost use Rattle.valuation.specs.Circuit.{Ascending};
+ghost use Rattle.circuit.specs.Gates.{pairs};
 ghost use Rattle.valuation.specs.declared.Value.TheVariants.{Unknown};
 ghost use Rattle.search.specs.Queries.{Query, Sound};
 ghost use Rattle.search.specs.Asking.{asked};
@@ -9,7 +11,7 @@ ghost use Rattle.search.specs.Answers.{Answer, Keeps, reply_of, range_after, mar
 ghost use Rattle.search.specs.Replies.{later as later_by, steps_of};
 ghost use Rattle.search.specs.Examples.{BothOutcomes};
 
-use circuit::{Gate, Literal};
+use circuit::{Circuit, Gate, Literal};
 use valuation::Value;
 
 // The most nodes of a circuit: the constant, 128 variables and 8,000 gates. A searcher has memory for as many.
@@ -27,6 +29,22 @@ pub struct Ask<'a> {
     pub start: usize,
     // the most steps that the answer may take
     pub allowance: u64,
+}
+
+impl<'a> Ask<'a> {
+    // The circuit of a query that may be asked.
+    pub fn circuit(self) -> Circuit<'a>
+        requires ascending { Ascending (1 + self.variables) (pairs self.gates.now) }
+        requires few_variables { self.variables ≤ 128 }
+        requires few_gates { length (pairs self.gates.now) ≤ 8000 }
+        ensures first { result.first ≡ 1 + self.entry.variables }
+        ensures gates { result.gates.now ≡ self.entry.gates.now }
+    {
+        Circuit {
+            first: 1 + self.variables,
+            gates: self.gates,
+        }
+    }
 }
 
 // What a searcher answers: a move or no move, with the steps that it needed, or that the allowance does not suffice. The setting of a move
