@@ -13,7 +13,8 @@ use Rattle.search.specs.Asking.{asked}
 use Rattle.search.specs.Answers.{reply_of, range_after, core_of}
 use Rattle.splitting.specs.Blame.{core}
 use Rattle.splitting.specs.Tree.{root_at, join, lost_at, moved_at, tree}
-use Rattle.splitting.specs.Steps.{later, settled, inputs_at, Stands, settings_at, answer_at}
+use Rattle.search.specs.Replies.{later}
+use Rattle.splitting.specs.Steps.{settled, inputs_at, Stands, settings_at, answer_at}
 use Rattle.splitting.proofs.Marking.{core_same}
 use Rattle.splitting.proofs.Trees.{on, tree_lost, tree_moved, tree_end, tree_split, need_within, length_lost}
 use Rattle.splitting.proofs.Replies.{reply_paid, reply_spent, range_paid, range_spent, Lost, no_move_says, range_no_move, first_reply, first_range, second_reply, second_range, second_core, join_assoc}

@@ -5,7 +5,7 @@ use Rattle.valuation.specs.declared.Value.TheVariants.{Unknown}
 use Rattle.search.specs.declared.Reply.TheVariants.{Move, NoMove, Spent}
 use Rattle.search.specs.Answers.{Outcome, moves, loses, Answer, paid, reply_of, setting_of, range_after, core_of, marks_after}
 use Rattle.splitting.specs.Tree.{answer, join, second, ways}
-use Rattle.splitting.specs.Steps.{later, steps_of}
+use Rattle.search.specs.Replies.{later, steps_of}
 
 -- an answer whose need the allowance covers, and one whose need it does not
 module _ (a : Answer) (n : ℕ) where

@@ -15,7 +15,7 @@ use Rattle.search.specs.Answers.{Outcome, moves, loses, Answer, Right, ceiling, 
 use Rattle.search.proofs.Cores.{more, stays_refuted}
 use Rattle.splitting.specs.Tree.{root_at, core_at, by_root, join, second, ways, lost_at, moved_at, tree, splits}
 use Rattle.splitting.specs.Claims.{SplitterKeeps}
-use Rattle.splitting.proofs.Working.{on_inside}
+use Rattle.search.proofs.Marks.{on_inside}
 use Rattle.splitting.proofs.Blamed.{length_core, core_forced, only_below, blame_keeps}
 
 -- both ways on, k variables unset after the next
