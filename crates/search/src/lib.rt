@@ -75,6 +75,7 @@ pub trait Searcher {
     ghost meaning: { Self → Query → Answer };
 
     // Answers a query. `forced` has the forced values by node (unknown: not forced) and is put back; the range is unset and no node is marked.
+    // Three lists and no struct of them: what is required of them holds only before the call, since the answer is written into the same lists.
     fn query(
         &mut self,
         ask: Ask<'_>,

@@ -58,17 +58,6 @@ marks_no_move a n m size e =
     let l = no_move_says a n m e in
     ap (λ b. cond b (replicate size false) (core_of a.outcome size)) (le-ltb n a.need (omega (arith, l.cost, l.within)))
 
-pub marks_other : (a : Answer) (n size : ℕ) → ((m : ℕ) → reply_of a n ≢ NoMove m) → marks_after a n size ≡ replicate size false
-marks_other a n size other =
-    elim (cases_lt n a.need) [
-      | inl h ↦ ap (λ b. cond b (replicate size false) (core_of a.outcome size)) (lt-ltb n a.need h)
-      | inr h ↦ ap (λ b. cond b (replicate size false) (core_of a.outcome size)) (le-ltb n a.need h) ∙ pick a.outcome refl h
-    ]
-  where
-    pick : (o : Outcome) → a.outcome ≡ o → a.need ≤ n → core_of o size ≡ replicate size false
-    pick (moves s) is h = refl
-    pick (loses c) is h = absurd (other a.need (reply_paid a n h ∙ ap (λ o. paid o a.need) is))
-
 -- the first way has no no move: its reply is the node's, a step later
 module _ (a b : Answer) (n : ℕ) (some : 1 ≤ n) (other : (m : ℕ) → reply_of a (n - 1) ≢ NoMove m) where
   abbrev both : Answer
