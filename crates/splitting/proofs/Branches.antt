@@ -34,18 +34,18 @@ unknown_left False f t = absurd (f refl)
 unknown_left True f t = absurd (t refl)
 
 move_not : (m n : ℕ) → Move m ≡ NoMove n → ⊥
-move_not m n e = let z : ◌≡◌ {A = ℕ} 0 1 = cc in omega arith
+move_not m n e = cc
 
 later_not : (m n : ℕ) (r : Reply) → ((k : ℕ) → r ≢ NoMove k) → later m r ≡ NoMove n → ⊥
 later_not m n (Move k) h e = move_not (m + k) n e
 later_not m n (NoMove k) h e = h k refl
-later_not m n Spent h e = let z : ◌≡◌ {A = ℕ} 0 1 = cc in omega arith
+later_not m n Spent h e = cc
 
 -- what a later no move comes from
 later_no_move : (m n : ℕ) (r : Reply) → later m r ≡ NoMove n → (k : ℕ) × (r ≡ NoMove k)
 later_no_move m n (Move k) e = absurd (move_not (m + k) n e)
 later_no_move m n (NoMove k) e = (k, refl)
-later_no_move m n Spent e = absurd (let z : ◌≡◌ {A = ℕ} 0 1 = cc in omega arith)
+later_no_move m n Spent e = cc
 
 module _ (q : Query) (sound : Sound q) (k : ℕ) (s : List Bool) (n : ℕ) (old : List Bool) where
   -- no step is left
@@ -55,8 +55,8 @@ module _ (q : Query) (sound : Sound q) (k : ℕ) (s : List Bool) (n : ℕ) (old 
       record {
         reply = sym (reply_spent (tree q k s) n (omega arith));
         range = sym (range_spent (tree q k s) n q.free (omega arith));
-        cores = λ m e'. absurd (let z : ◌≡◌ {A = ℕ} 0 1 = cc in omega arith);
-        inputs = λ m e'. absurd (let z : ◌≡◌ {A = ℕ} 0 1 = cc in omega arith);
+        cores = λ m e'. cc;
+        inputs = λ m e'. cc;
       }
 
   -- the root worked out, over values that have the inputs of the node

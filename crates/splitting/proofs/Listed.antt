@@ -22,7 +22,7 @@ none_set (suc n) (suc k) = none_set n k
 
 -- one more, and one less
 pub flag_count_set : (ms : List Bool) (n : ℕ) → n < length ms → get_or ms n false ≡ false → flag_count (set ms n true) ≡ flag_count ms + 1
-flag_count_set [] n h e = absurd (let z : ⊥ = omega arith in z)
+flag_count_set [] n h e = absurd (omega arith)
 flag_count_set (b ∷ ms) zero h e = rw e (omega arith)
 flag_count_set (b ∷ ms) (suc n) h e = omega (arith, flag_count_set ms n (omega arith) e)
 

@@ -22,7 +22,7 @@ is_known_true False k = refl
 is_known_true True k = refl
 
 known_is : (x : Value) → is_known x ≡ true → x ≢ Unknown
-known_is Unknown e = λ u. (let z : ◌≡◌ {A = ℕ} 0 1 = cc in omega arith)
+known_is Unknown e = λ u. cc
 known_is False e = λ u. unknown≢watched true (sym u)
 known_is True e = λ u. unknown≢watched false (sym u)
 
@@ -121,9 +121,9 @@ module _ (first : ℕ) (gs : List Pair) (F v : Values) (root : ℕ) where
     begun = or_left (eqb root root) false (eq-eqb root root refl);
     working = record {
       reached = λ i h. subst (From (blames first gs F v) (root ∷ [])) (ap (λ k. get_or (root ∷ []) k 0) (let z : 0 ≡ i = omega arith in z)) (begin root (inl refl));
-      closed = λ i h. absurd (let z : ⊥ = omega arith in z);
+      closed = λ i h. absurd (omega arith);
     };
-    marking = record { kept = λ n o. o; new = λ i h. absurd (let z : ⊥ = omega arith in z); only = λ n o. inl o };
+    marking = record { kept = λ n o. o; new = λ i h. absurd (omega arith); only = λ n o. inl o };
   }
 
   module _ (old marks : List Bool) (order : List ℕ) (done : ℕ) (b : Blaming first gs F v root old marks order done) where

@@ -30,10 +30,10 @@ pub record Lost (a : Answer) (n m : ℕ) : Type 0 where
   pub within : m ≤ n
 
 move≢no_move : (m n : ℕ) → Move m ≡ NoMove n → ⊥
-move≢no_move m n e = let z : ◌≡◌ {A = ℕ} 0 1 = cc in omega arith
+move≢no_move m n e = cc
 
 spent≢no_move : (n : ℕ) → Spent ≡ NoMove n → ⊥
-spent≢no_move n e = let z : ◌≡◌ {A = ℕ} 0 1 = cc in omega arith
+spent≢no_move n e = cc
 
 pub no_move_says : (a : Answer) (n m : ℕ) → reply_of a n ≡ NoMove m → Lost a n m
 no_move_says a n m e =
@@ -156,12 +156,12 @@ or_assoc false y z = refl
 
 pub join_assoc : (xs ys zs : List Bool) → length ys ≡ length xs → join (join xs ys) zs ≡ join xs (join ys zs)
 join_assoc [] ys zs e = refl
-join_assoc (x ∷ xs) [] zs e = absurd (let z : ⊥ = omega arith in z)
+join_assoc (x ∷ xs) [] zs e = absurd (omega arith)
 join_assoc (x ∷ xs) (y ∷ ys) [] e = refl
 join_assoc (x ∷ xs) (y ∷ ys) (z ∷ zs) e = ap₂ (λ b bs. b ∷ bs) (or_assoc x y z) (join_assoc xs ys zs (omega arith))
 
 pub join_none : (cs : List Bool) (n : ℕ) → length cs ≡ n → join (replicate n false) cs ≡ cs
 join_none [] zero e = refl
-join_none [] (suc n) e = absurd (let z : ⊥ = omega arith in z)
-join_none (c ∷ cs) zero e = absurd (let z : ⊥ = omega arith in z)
+join_none [] (suc n) e = absurd (omega arith)
+join_none (c ∷ cs) zero e = absurd (omega arith)
 join_none (c ∷ cs) (suc n) e = ap (λ bs. c ∷ bs) (join_none cs n (omega arith))

@@ -25,7 +25,7 @@ set_on ms n m o =
 
 -- what stands in a list, and where
 pub holds_at : (xs : List ℕ) (i : ℕ) → i < length xs → holds xs (get_or xs i 0) ≡ true
-holds_at [] i h = absurd (let z : ⊥ = omega arith in z)
+holds_at [] i h = absurd (omega arith)
 holds_at (x ∷ xs) zero h = or_left (eqb x x) (holds xs x) (eq-eqb x x refl)
 holds_at (x ∷ xs) (suc i) h = or_right (eqb x (get_or xs i 0)) (holds xs (get_or xs i 0)) (holds_at xs i (omega arith))
 
