@@ -2,7 +2,7 @@
 use Rattle.std.proofs.Common.{◌≡◌, ℕ, zero, suc, ◌+◌, ◌-◌, ◌<◌, ◌≤◌, Bool, true, false, cond, ◌||◌, ◌≢◌, List, [], ◌∷◌, length, replicate, sym, refl, ap, ◌∙◌, ap₂, inl, inr, arith}
 use Rattle.std.proofs.lemmas.Bool.{cases_lt, lt-ltb, le-ltb}
 use Rattle.valuation.specs.declared.Value.TheVariants.{Unknown}
-use Rattle.search.specs.declared.Reply.TheVariants.{Move, NoMove, Spent}
+use Rattle.search.specs.declared.Reply.TheVariants.{NoMove, Spent}
 use Rattle.search.specs.Answers.{Outcome, moves, loses, Answer, paid, reply_of, setting_of, range_after, core_of, marks_after}
 use Rattle.splitting.specs.Tree.{answer, join, second, ways}
 use Rattle.search.specs.Replies.{later, steps_of}
@@ -29,21 +29,15 @@ pub record Lost (a : Answer) (n m : ℕ) : Type 0 where
   pub cost : a.need ≡ m
   pub within : m ≤ n
 
-move≢no_move : (m n : ℕ) → Move m ≡ NoMove n → ⊥
-move≢no_move m n e = cc
-
-spent≢no_move : (n : ℕ) → Spent ≡ NoMove n → ⊥
-spent≢no_move n e = cc
-
 pub no_move_says : (a : Answer) (n m : ℕ) → reply_of a n ≡ NoMove m → Lost a n m
 no_move_says a n m e =
     elim (cases_lt n a.need) [
-      | inl h ↦ absurd (spent≢no_move m (sym (reply_spent a n h) ∙ e))
+      | inl h ↦ (let z = sym (reply_spent a n h) ∙ e in cc)
       | inr h ↦ pick a.outcome refl h
     ]
   where
     pick : (o : Outcome) → a.outcome ≡ o → a.need ≤ n → Lost a n m
-    pick (moves s) is h = absurd (move≢no_move a.need m (sym (reply_paid a n h ∙ ap (λ o. paid o a.need) is) ∙ e))
+    pick (moves s) is h = let z = sym (reply_paid a n h ∙ ap (λ o. paid o a.need) is) ∙ e in cc
     pick (loses c) is h =
         let cost : a.need ≡ m = ap steps_of (sym (reply_paid a n h ∙ ap (λ o. paid o a.need) is) ∙ e) in
         record { core = c; loss = is; cost = cost; within = omega arith }
