@@ -1,12 +1,9 @@
-// The inputs of a circuit in the 64 cases of a group: case c of group g is case 64 g + c.
-ghost use Rattle.std.specs.Prelude.{◌≡◌, ℕ, ◌+◌, ◌*◌, ◌^◌, ◌<◌, ◌≤◌, map, length, nat_lt};
-ghost use Rattle.valuation.specs.Circuit.{reads, input_values, settings_from};
+// The 64 cases of a group, as words: case c of group g is case 64 g + c.
+ghost use Rattle.std.specs.Prelude.{◌≡◌, ℕ, ◌+◌, ◌*◌, ◌^◌, ◌<◌, nat_lt};
 ghost use Rattle.valuation.specs.Rails.{on, case_value};
-ghost use Rattle.valuation.specs.Three.{of_bool, or_else};
-ghost use Rattle.counting.specs.Counting.{setting};
+ghost use Rattle.valuation.specs.Three.{of_bool};
 
-use circuit::kinds::{Kind, Wide};
-use valuation::Value;
+use circuit::kinds::Wide;
 
 // The cases of a group that have bit k of their number, for the k that differ within a group.
 const PATTERNS: [u64; 6] = [
@@ -42,41 +39,10 @@ fn true_cases(k: usize, group: u64) -> u64
     }
 }
 
-// The value of an input: what is forced, or else set; node 0 is false, and the nodes from `start` on are the range.
-fn input_in_group(node: usize, forced: Value, start: usize, free: usize, group: u64) -> Wide
-    requires { free ≤ 40 }
-    ensures { (c : ℕ) → c < 64 → case_value result.trues result.falses c ≡ or_else forced (settings_from start (map of_bool (setting free (64 * group + c))) node) }
+// The values of the k-th variable in the cases of a group.
+pub(super) fn variable_in_group(k: usize, group: u64) -> Wide
+    requires { k < 64 }
+    ensures { (c : ℕ) → c < 64 → case_value result.trues result.falses c ≡ of_bool (on (64 * group + c) k) }
 {
-    match forced {
-        Value::Unknown => {
-            if node == 0 {
-                Wide::constant(Value::False)
-            } else if node < start {
-                Wide::constant(Value::Unknown)
-            } else if node - start < free {
-                Wide::new(true_cases(node - start, group), u64::MAX)
-            } else {
-                Wide::constant(Value::Unknown)
-            }
-        }
-        known => Wide::constant(known),
-    }
-}
-
-// Writes the values of the inputs.
-pub(super) fn set_group(
-    forced: &[Value],
-    start: usize,
-    free: usize,
-    group: u64,
-    inputs: &mut [Wide],
-)
-    requires few { free ≤ 40 }
-    requires covered { length inputs.old ≤ length forced.now }
-    ensures { (c : ℕ) → c < 64 → map (λ v. case_value v.trues v.falses c) inputs.new
-        ≡ input_values (length inputs.old) (reads forced.now) (settings_from start (map of_bool (setting free (64 * group + c)))) }
-{
-    for (node, input) in inputs.iter_mut().enumerate() {
-        *input = input_in_group(node, forced[node], start, free, group);
-    }
+    Wide::new(true_cases(k, group), u64::MAX)
 }

@@ -2,27 +2,24 @@
 #![tactic(auto)]
 
 ghost use Rattle.std.specs.Prelude.{◌≡◌, ℕ, ◌+◌, ◌*◌, ◌^◌, ◌<◌, ◌≤◌, false, not, ◌&&◌, map, length, replicate, vec_len, nat_lt};
+ghost use Rattle.valuation.specs.Circuit.{reads};
 ghost use Rattle.valuation.specs.Rails.{on};
 ghost use Rattle.valuation.specs.Three.{of_bool};
 ghost use Rattle.search.specs.Queries.{Sound};
 ghost use Rattle.search.specs.Asking.{asked};
-ghost use Rattle.counting.specs.Counting.{setting, refutes, first_open, groups, group_size, forced_of, core, counts};
+ghost use Rattle.search.specs.Answers.{forced_of};
+ghost use Rattle.search.specs.declared.TheConstants.{NODES};
+ghost use Rattle.counting.specs.Counting.{setting, refutes, first_open, groups, group_size, core, counts};
 ghost use Rattle.counting.proofs.Kept.{counts_keep};
 
 use circuit::kinds::{Kind, Wide};
-use circuit::reaching::mark_reached;
-use circuit::walking::evaluate;
-use inputs::{cases_that_count, set_group};
-use lowest::lowest_one;
-use search::{Ask, Reply, Searcher};
+use circuit::walking::set_inputs_by;
+use inputs::{cases_that_count, variable_in_group};
+use search::{Ask, NODES, Reply, Searcher};
 use std::alloc::{AllocError, Global};
 use valuation::Value;
 
 mod inputs;
-mod lowest;
-
-// The most nodes of a circuit: the constant, 128 variables and 8,000 gates.
-const NODES: usize = 1 + 128 + 8000;
 
 // How many groups the cases of some variables have.
 fn group_count(free: usize) -> u64
@@ -35,12 +32,19 @@ fn group_count(free: usize) -> u64
 // The cases of a group that count and are not refuted, as a word, by one walk over the values of all 64.
 fn open_cases(ask: Ask<'_>, forced: &[Value], free: usize, group: u64, values: &mut [Wide]) -> u64
     requires sound { Sound (asked ask forced.now free) }
-    requires room { 8129 ≤ length values.old }
+    requires room { NODES ≤ length values.old }
     ensures { (c : ℕ) → c < 64 → on result c ≡ (nat_lt c (2 ^ free) && not (refutes (asked ask.entry forced.now free) (64 * group + c))) }
 {
-    let first = 1 + ask.variables;
-    set_group(forced, ask.start, free, group, &mut values[0..first]);
-    let root = evaluate(ask.gates, forced, first, ask.root, values);
+    let circuit = ask.circuit();
+    let in_group = |k: usize| variable_in_group(k, group);
+    set_inputs_by(
+        forced,
+        ask.start,
+        free,
+        in_group,
+        &mut values[..circuit.first],
+    );
+    let root = circuit.evaluate(forced, ask.root, values);
     cases_that_count(free) & !root.false_cases()
 }
 
@@ -54,26 +58,14 @@ fn first_in_group(
 ) -> Option<u64>
     requires sound { Sound (asked ask forced.now free) }
     requires some { group < groups free }
-    requires room { 8129 ≤ length values.old }
+    requires room { NODES ≤ length values.old }
     ensures { result ≡ first_open (refutes (asked ask.entry forced.now free)) (64 * group) (group_size free) }
 {
-    let place = lowest_one(open_cases(ask, forced, free, group, values));
-    if place < 64 {
-        Some(64 * group + place)
-    } else {
+    let open = open_cases(ask, forced, free, group, values);
+    if open == 0 {
         None
-    }
-}
-
-// The value of the k-th variable in a case.
-fn value_in_case(case: u64, k: usize) -> Value
-    requires { k < 64 }
-    ensures { result ≡ of_bool (on case k) }
-{
-    if (case >> k) & 1 == 1 {
-        Value::True
     } else {
-        Value::False
+        Some(64 * group + u64::from(open.trailing_zeros()))
     }
 }
 
@@ -82,19 +74,20 @@ fn write_setting(case: u64, range: &mut [Value])
     requires { length range.old ≤ 40 }
     ensures { range.new ≡ map of_bool (setting (length range.old) case) }
 {
-    for k in 0..range.len() {
-        range[k] = value_in_case(case, k);
+    for (k, entry) in range.iter_mut().enumerate() {
+        *entry = Value::from((case >> k) & 1 == 1);
     }
 }
 
 // Takes the marks away from the nodes that are not forced.
 fn keep_forced(forced: &[Value], marks: &mut [bool])
     requires { length marks.old ≡ length forced.now }
-    ensures { marks.new ≡ forced_of marks.old forced.now }
+    ensures { marks.new ≡ forced_of marks.old (reads forced.now) (length forced.now) }
 {
-    for node in 0..marks.len() {
+    // An index into `forced`, since a proof has no name for a list that is written through a `zip` of `iter_mut`.
+    for (node, mark) in marks.iter_mut().enumerate() {
         if forced[node] == Value::Unknown {
-            marks[node] = false;
+            *mark = false;
         }
     }
 }
@@ -105,7 +98,7 @@ fn mark_core(ask: Ask<'_>, forced: &[Value], free: usize, marks: &mut [bool])
     requires unmarked { marks.old ≡ replicate (length forced.now) false }
     ensures { marks.new ≡ core (asked ask.entry forced.now free) }
 {
-    mark_reached(ask.gates, forced, 1 + ask.variables, ask.root, marks);
+    ask.circuit().mark_reached(forced, ask.root, marks);
     keep_forced(forced, marks);
 }
 
@@ -113,7 +106,7 @@ fn mark_core(ask: Ask<'_>, forced: &[Value], free: usize, marks: &mut [bool])
 #[derive(Drop)]
 pub struct Counter {
     values: Vec<Wide>,
-    ghost roomy: { vec_len values ≡ 8129 },
+    ghost roomy: { vec_len values ≡ NODES },
 }
 
 impl Counter {

@@ -14,9 +14,9 @@ use Rattle.valuation.proofs.Nodes.{nodes as each_node, half, both_same}
 use Rattle.valuation.proofs.Computed.{equations_hold}
 use Rattle.valuation.proofs.Cut.{reach_exact, reached_inside}
 use Rattle.search.specs.Queries.{Query, Sound, nodes, values_under, root_under, Refuted}
-use Rattle.search.specs.Answers.{ceiling, only, Right}
+use Rattle.search.specs.Answers.{ceiling, is_known, only, Right}
 use Rattle.search.proofs.Marks.{on_inside}
-use Rattle.counting.specs.Counting.{setting, case_of, refutes, first_open, is_known, core, counted, CountsKeep}
+use Rattle.counting.specs.Counting.{setting, case_of, refutes, first_open, core, counted, CountsKeep}
 use Rattle.counting.proofs.Cases.{length_setting, one_to_one, Says, first_says}
 
 false_is : (v : Value) → is_false v ≡ true → v ≡ False
@@ -41,7 +41,7 @@ module _ (q : Query) (sound : Sound q) where
   abbrev some : Values
   some = only (core q) all
 
-  core_at : (n : ℕ) → n < nodes q → get_or (core q) n false ≡ (is_known (all n) && get_or (reach (1 + q.variables) q.gates all (q.root / 2)) n false)
+  core_at : (n : ℕ) → n < nodes q → get_or (core q) n false ≡ (get_or (reach (1 + q.variables) q.gates all (q.root / 2)) n false && is_known (all n))
   core_at n h = get_or-map-range_with_len _ 0 (length q.forced) n n false (omega (arith, sound.covered)) (omega arith)
 
   length_core : length (core q) ≡ nodes q
@@ -49,14 +49,14 @@ module _ (q : Query) (sound : Sound q) where
 
   -- the core's nodes are forced ..
   core_forced : (n : ℕ) → get_or (core q) n false ≡ true → all n ≢ Unknown
-  core_forced n h = known_is (all n) (and_parts (is_known (all n)) _ (sym (core_at n (omega (arith, on_inside (core q) n h, length_core))) ∙ h)).0
+  core_forced n h = known_is (all n) (and_parts _ (is_known (all n)) (sym (core_at n (omega (arith, on_inside (core q) n h, length_core))) ∙ h)).1
 
   -- .. and the reached forced nodes are in it
   kept : (n : ℕ) → Reached (1 + q.variables) q.gates all (q.root / 2) n → all n ≢ Unknown → some n ≡ all n
   kept n r k =
       let i = reached_inside (1 + q.variables) q.gates all (q.root / 2) sound.ascending (omega arith) sound.rooted n r in
       cond-true (get_or (core q) n false) (all n) Unknown
-      (core_at n i ∙ and_from (is_known (all n)) _ (known_on (all n) k) ((reach_exact (1 + q.variables) q.gates all (q.root / 2) sound.ascending (omega arith) sound.rooted n).1 r))
+      (core_at n i ∙ and_from _ (is_known (all n)) ((reach_exact (1 + q.variables) q.gates all (q.root / 2) sound.ascending (omega arith) sound.rooted n).1 r) (known_on (all n) k))
 
   left_out : (n : ℕ) → all n ≡ Unknown → some n ≡ Unknown
   left_out n u = by (get_or (core q) n false)

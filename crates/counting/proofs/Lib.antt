@@ -1,5 +1,4 @@
 pub mod Digits
-pub mod Lowest
 pub mod Cases
 pub mod Kept
 pub mod Groups

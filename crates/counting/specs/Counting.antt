@@ -1,14 +1,12 @@
 -- A counter tries every setting of the range, case by case, in groups of 64.
-use Rattle.std.specs.Prelude.{◌≡◌, ℕ, zero, suc, ◌+◌, ◌*◌, ◌/◌, ◌^◌, ◌<◌, min, Bool, true, false, cond, ◌&&◌, List, [], ◌∷◌, map, length, Some, None, Option, slice_index_or}
+use Rattle.std.specs.Prelude.{◌≡◌, ℕ, zero, suc, ◌+◌, ◌*◌, ◌/◌, ◌^◌, ◌<◌, min, Bool, cond, List, [], ◌∷◌, map, length, Some, None, Option}
 use Rattle.std.specs.List.{range_with_len}
-use Rattle.valuation.specs.declared.Value.{Value}
-use Rattle.valuation.specs.declared.Value.TheVariants.{Unknown, False, True}
 use Rattle.valuation.specs.Three.{of_bool}
 use Rattle.valuation.specs.Rails.{on, is_false}
 use Rattle.valuation.specs.Circuit.{reads}
 use Rattle.valuation.specs.Reach.{reach}
 use Rattle.search.specs.Queries.{Query, root_under}
-use Rattle.search.specs.Answers.{moves, loses, Answer, Keeps}
+use Rattle.search.specs.Answers.{moves, loses, Answer, forced_of, Keeps}
 
 -- case t gives the k-th of f variables bit k of t
 abbrev pub setting : ℕ → ℕ → List Bool
@@ -40,19 +38,9 @@ groups f = group_of (2 ^ f + 63)
 abbrev pub group_size : ℕ → ℕ
 group_size f = min 64 (2 ^ f)
 
--- whether a value is known
-abbrev pub is_known : Value → Bool
-is_known Unknown = false
-is_known False = true
-is_known True = true
-
--- the forced nodes of those marked
-abbrev pub forced_of : List Bool → List Value → List Bool
-forced_of ms F = map (λ n. is_known (reads F n) && slice_index_or ms n false) (range_with_len 0 (length F))
-
 -- The core: every forced node that is reached. The root's node is reached, and so are the inputs of a reached gate that is not forced.
 abbrev pub core : Query → List Bool
-core q = forced_of (reach (1 + q.variables) q.gates (reads q.forced) (q.root / 2)) q.forced
+core q = forced_of (reach (1 + q.variables) q.gates (reads q.forced) (q.root / 2)) (reads q.forced) (length q.forced)
 
 -- the steps are the groups that were tried
 abbrev pub counted : Query → Option ℕ → Answer

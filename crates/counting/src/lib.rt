@@ -4,15 +4,11 @@
 ghost use Rattle.counting.specs.Counting.{CountsKeep, OneToOne};
 
 // Cases and settings correspond one to one.
-pub fn one_to_one() -> u8
+pub fn one_to_one()
     ensures { OneToOne }
-{
-    0
-}
+{}
 
 // The counter keeps its meaning.
-pub fn counts_keep() -> u8
+pub fn counts_keep()
     ensures { CountsKeep }
-{
-    0
-}
+{}

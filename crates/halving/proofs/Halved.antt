@@ -145,7 +145,7 @@ module _ (m : Query → Answer) (q : Query) where
   halves_none : q.free ≡ 0 → halves m q ≡ m q
   halves_none e = cond-true (eqb q.free 0) _ _ (eq-eqb q.free 0 e)
 
-  pub halves_some : 0 < q.free → halves m q ≡ either q.start (half m q false).outcome (half m q false).need (half m q true)
+  halves_some : 0 < q.free → halves m q ≡ either q.start (half m q false).outcome (half m q false).need (half m q true)
   halves_some h = cond-false (eqb q.free 0) _ _ (ne_eqb q.free 0 (λ e. omega arith))
 
   -- by whether a variable is free

@@ -1,6 +1,6 @@
 -- The query with the first free variable forced is sound, and says what the query says with that variable set.
-use Rattle.std.proofs.Common.{◌≡◌, ℕ, ◌+◌, ◌-◌, ◌/◌, ◌<◌, ◌≤◌, Bool, true, false, cond, eqb, ltb, ◌≢◌, List, ◌∷◌, map, length, set, sym, refl, ap, ◌∙◌, ap₂, inl, inr, add-one, arith}
-use Rattle.std.proofs.lemmas.List.{get_or-set_same, get_or-set_other, set-set, set-get_or, length-set, length-map}
+use Rattle.std.proofs.Common.{◌≡◌, ℕ, ◌+◌, ◌-◌, ◌/◌, ◌<◌, ◌≤◌, Bool, true, false, cond, eqb, ltb, ◌≢◌, List, ◌∷◌, map, length, set, sym, refl, ap, ◌∙◌, ap₂, inl, inr, add-one, arith, take, drop}
+use Rattle.std.proofs.lemmas.List.{get_or-set_same, get_or-set_other, set-set, set-get_or, length-set, length-map, length-drop, take_rest}
 use Rattle.std.proofs.lemmas.Bool.{cases_eq, cases_lt, eq-eqb, ne_eqb, lt-ltb, le-ltb, cond-true, cond-false}
 use Rattle.valuation.specs.declared.Value.{Value}
 use Rattle.valuation.specs.declared.Value.TheVariants.{Unknown, False}
@@ -162,3 +162,12 @@ module _ (q : Query) (sound : Sound q) (some : 0 < q.free) (b : Bool) where
   -- the entry put back
   pub put_back : (F : List Value) (v : Value) → F ≡ set q.forced q.start v → set F q.start Unknown ≡ q.forced
   put_back F v e = ap (λ xs. set xs q.start Unknown) e ∙ set-set q.forced q.start v Unknown ∙ ap (set q.forced q.start) (sym unforced) ∙ set-get_or q.forced q.start Unknown
+
+-- the range without its first variable
+pub tail_length : (xs : List Value) → length (take (length xs - 1) (drop 1 xs)) ≡ length xs - 1
+tail_length xs = ap length (take_rest xs 1) ∙ length-drop 1 xs
+
+-- the query below, as the code puts it
+pub asked_under : (q : Query) (b : Bool) (v : Value) (n : ℕ) → v ≡ of_bool b → n ≡ q.free - 1 →
+    ◌≡◌ {A = Query} (record { variables = q.variables; gates = q.gates; root = q.root; start = q.start + 1; forced = set q.forced q.start v; free = n }) (under q b)
+asked_under q b v n e f = ap₂ (λ w k. record { variables = q.variables; gates = q.gates; root = q.root; start = q.start + 1; forced = set q.forced q.start w; free = k }) e f

@@ -1,2 +1,1 @@
 pub mod Halving
-pub mod Replies

@@ -4,8 +4,6 @@
 ghost use Rattle.halving.specs.Halving.{HalvesKeep};
 
 // Over a searcher that keeps its meaning, the halver keeps its own.
-pub fn halves_keep() -> u8
+pub fn halves_keep()
     ensures { HalvesKeep }
-{
-    0
-}
+{}

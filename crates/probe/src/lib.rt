@@ -3,14 +3,13 @@
 
 ghost use Rattle.std.specs.Prelude.{◌≡◌, ℕ, ◌+◌, ◌*◌, ◌<◌, ◌≤◌, true, false, ◌≢◌, length, replicate, MatchOption};
 ghost use Rattle.valuation.specs.declared.Value.TheVariants.{Unknown};
-ghost use Rattle.valuation.specs.Circuit.{Ascending, nothing, reads, settings_from, node_values};
+ghost use Rattle.valuation.specs.Circuit.{Ascending, reads, settings_from};
 ghost use Rattle.circuit.specs.Gates.{pairs};
 ghost use Rattle.search.specs.Queries.{Sound};
 ghost use Rattle.search.specs.Asking.{asked};
-ghost use Rattle.probe.specs.Answered.{Answered};
+ghost use Rattle.search.specs.Answers.{Answered};
 
 use circuit::Gate;
-use circuit::walking::{set_inputs, walk};
 use search::{Ask, Reply, Searcher};
 use valuation::Value;
 
@@ -28,28 +27,12 @@ fn ascends(gates: &[Gate], first: usize) -> bool
     true
 }
 
-// Whether nothing is known.
-fn is_unset(list: &[Value]) -> bool
-    ensures { result ≡ true → list.now ≡ replicate (length list.now) Unknown }
+// Whether a list has this value only.
+fn is_all<T: Copy + PartialEq>(list: &[T], value: T) -> bool
+    requires { (x : T) → T.eq x value ≡ true → x ≡ value }
+    ensures { result ≡ true → list.now ≡ replicate (length list.now) value }
 {
-    for value in list {
-        if *value != Value::Unknown {
-            return false;
-        }
-    }
-    true
-}
-
-// Whether nothing is marked.
-fn is_unmarked(list: &[bool]) -> bool
-    ensures { result ≡ true → list.now ≡ replicate (length list.now) false }
-{
-    for mark in list {
-        if *mark {
-            return false;
-        }
-    }
-    true
+    list.iter().all(|x| *x == value)
 }
 
 // Whether each forced node has its value.
@@ -57,33 +40,8 @@ fn gives(forced: &[Value], values: &[Value]) -> bool
     requires { length forced.now ≤ length values.now }
     ensures { result ≡ true → (n : ℕ) → n < length forced.now → reads forced.now n ≢ Unknown → reads values.now n ≡ reads forced.now n }
 {
-    for (n, value) in forced.iter().enumerate() {
-        if *value != Value::Unknown && values[n] != *value {
-            return false;
-        }
-    }
-    true
-}
-
-// Whether the play, with nothing forced, gives each forced node its value. `unforced` and `values` are work lists.
-fn comes_from(
-    gates: &[Gate],
-    first: usize,
-    play: &[Value],
-    forced: &[Value],
-    unforced: &[Value],
-    values: &mut [Value],
-) -> bool
-    requires ascending { Ascending first (pairs gates.now) }
-    requires forced { length forced.now ≡ first + length gates.now }
-    requires unforced { unforced.now ≡ replicate (first + length gates.now) Unknown }
-    requires values { first + length gates.now ≤ length values.old }
-    ensures { result ≡ true → (n : ℕ) → n < first + length gates.now → reads forced.now n ≢ Unknown
-        → reads (node_values first (pairs gates.now) nothing (settings_from 1 play.now)) n ≡ reads forced.now n }
-{
-    set_inputs(unforced, 1, play, &mut values[0..first]);
-    walk(gates, unforced, first, values);
-    gives(forced, values)
+    let mut pairs = forced.iter().zip(values);
+    pairs.all(|(forced, value)| *forced == Value::Unknown || *value == *forced)
 }
 
 // Whether a query's numbers are within their limits.
@@ -98,29 +56,13 @@ fn within(variables: usize, gates: usize, start: usize, free: usize) -> bool
         && start + free <= 1 + variables
 }
 
-// What a play sets a variable to.
-fn setting_of(play: &[Value], node: usize) -> Value
-    requires { 1 ≤ node }
-    ensures { result ≡ settings_from 1 play.now node }
-{
-    if node - 1 < play.len() {
-        play[node - 1]
-    } else {
-        Value::Unknown
-    }
-}
-
 // Whether the play leaves the range unset.
 fn leaves_unset(play: &[Value], start: usize, free: usize) -> bool
-    requires { (1 ≤ start) × (start ≤ 129) × (free ≤ 40) }
+    requires { 1 ≤ start }
     ensures { result ≡ true → (k : ℕ) → k < free → settings_from 1 play.now (start + k) ≡ Unknown }
 {
-    for k in 0..free {
-        if setting_of(play, start + k) != Value::Unknown {
-            return false;
-        }
-    }
-    true
+    let mut range = play.iter().skip(start - 1).take(free);
+    range.all(|value| *value == Value::Unknown)
 }
 
 // Whether a query is sound, by a play that its forced nodes come from. `unforced` and `values` are work lists, the first of unknowns.
@@ -134,22 +76,25 @@ pub fn is_sound(
 ) -> bool
     ensures { result ≡ true → Sound (asked ask.entry forced.now free) }
 {
-    let gates = ask.gates;
-    if !within(ask.variables, gates.len(), ask.start, free) {
+    if !within(ask.variables, ask.gates.len(), ask.start, free) {
         return false;
     }
     let first = 1 + ask.variables;
-    let nodes = first + gates.len();
+    let nodes = first + ask.gates.len();
     if ask.root.node() >= nodes || forced.len() != nodes {
         return false;
     }
     if unforced.len() != nodes || values.len() < nodes {
         return false;
     }
-    if !is_unset(unforced) || !leaves_unset(play, ask.start, free) || !ascends(gates, first) {
+    if !is_all(unforced, Value::Unknown)
+        || !leaves_unset(play, ask.start, free)
+        || !ascends(ask.gates, first)
+    {
         return false;
     }
-    comes_from(gates, first, play, forced, unforced, values)
+    ask.circuit().work_out(play, unforced, values);
+    gives(forced, values)
 }
 
 // Asks a query that is sound by this play; none where that is not so, and then nothing is written but the work list `values`.
@@ -168,7 +113,7 @@ pub fn probe<S: Searcher>(
     ensures answer { MatchOption result ((range.new ≡ range.old) × (marks.new ≡ marks.old))
         (Answered (S.Searcher.meaning searcher.old (asked ask.entry forced.old (length range.old))) ask.entry.allowance (length forced.old) (length range.old) range.new marks.new) }
 {
-    if marks.len() != forced.len() || !is_unset(range) || !is_unmarked(marks) {
+    if marks.len() != forced.len() || !is_all(range, Value::Unknown) || !is_all(marks, false) {
         return None;
     }
     if !is_sound(ask, forced, range.len(), play, unforced, values) {

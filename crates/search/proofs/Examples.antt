@@ -21,12 +21,12 @@ given v (suc (suc zero)) lt known = absurd (known refl)
 given true (suc (suc (suc zero))) lt known = refl
 given false (suc (suc (suc zero))) lt known = refl
 given v (suc (suc (suc (suc zero)))) lt known = absurd (known refl)
-given v (suc (suc (suc (suc (suc n))))) lt known = absurd (let none : ⊥ = omega arith in none)
+given v (suc (suc (suc (suc (suc n))))) lt known = absurd (omega arith)
 
 ascending : (v : Bool) → Ascending 3 (example v).gates
 ascending v zero lt = (omega arith, omega arith)
 ascending v (suc zero) lt = (omega arith, omega arith)
-ascending v (suc (suc k)) lt = absurd (let none : ⊥ = omega arith in none)
+ascending v (suc (suc k)) lt = absurd (omega arith)
 
 is_sound : (v : Bool) → Sound (example v)
 unfolding play
@@ -45,10 +45,10 @@ is_sound v =
     }
 
 all_refuted : (s : List Bool) → length s ≡ 1 → Refuted (example false) (reads (example false).forced) s
-all_refuted [] e = absurd (let none : ⊥ = omega arith in none)
+all_refuted [] e = absurd (omega arith)
 all_refuted (true ∷ []) e = refl
 all_refuted (false ∷ []) e = refl
-all_refuted (b ∷ c ∷ s) e = absurd (let none : ⊥ = omega arith in none)
+all_refuted (b ∷ c ∷ s) e = absurd (omega arith)
 
 pub both_outcomes : BothOutcomes
 both_outcomes =

@@ -1,7 +1,8 @@
 -- What a searcher answers, and what every searcher keeps.
-use Rattle.std.specs.Prelude.{◌≡◌, ℕ, ◌+◌, ◌-◌, ◌^◌, ◌≤◌, Bool, true, false, cond, ◌≢◌, List, map, length, replicate, nat_lt, slice_index_or}
+use Rattle.std.specs.Prelude.{◌≡◌, ℕ, ◌+◌, ◌-◌, ◌^◌, ◌≤◌, Bool, true, false, cond, ◌&&◌, ◌≢◌, List, map, length, replicate, nat_lt, slice_index_or}
+use Rattle.std.specs.List.{range_with_len}
 use Rattle.valuation.specs.declared.Value.{Value}
-use Rattle.valuation.specs.declared.Value.TheVariants.{Unknown}
+use Rattle.valuation.specs.declared.Value.TheVariants.{Unknown, False, True}
 use Rattle.valuation.specs.Three.{of_bool}
 use Rattle.valuation.specs.Circuit.{Values, reads}
 use Rattle.search.specs.declared.Reply.{Reply}
@@ -24,6 +25,16 @@ ceiling f = 2 ^ (f + 1) - 1
 -- the forced nodes that are marked, and no other
 abbrev pub only : List Bool → Values → Values
 only core F n = cond (slice_index_or core n false) (F n) Unknown
+
+-- whether a value is known
+abbrev pub is_known : Value → Bool
+is_known Unknown = false
+is_known False = true
+is_known True = true
+
+-- those of the marked nodes that are forced
+abbrev pub forced_of : List Bool → Values → ℕ → List Bool
+forced_of marks F size = map (λ n. slice_index_or marks n false && is_known (F n)) (range_with_len 0 size)
 
 -- A setting that is not refuted; or a core: some of the forced nodes, and with only these forced every setting is refuted, as it is with all.
 abbrev pub Right : Query → Outcome → Type 0
@@ -63,3 +74,9 @@ core_of (loses core) n = core
 -- the marks after a query: the core of a no move, else none
 abbrev pub marks_after : Answer → ℕ → ℕ → List Bool
 marks_after a allowance n = cond (nat_lt allowance a.need) (replicate n false) (core_of a.outcome n)
+
+-- The reply to a query, with the range and the marks after it, as an answer has them.
+pub record Answered (a : Answer) (allowance nodes free : ℕ) (range : List Value) (marks : List Bool) (r : Reply) : Type 0 where
+  pub reply : r ≡ reply_of a allowance
+  pub set : range ≡ range_after a allowance free
+  pub marked : marks ≡ marks_after a allowance nodes

@@ -1,4 +1,5 @@
 pub mod Queries
 pub mod Answers
+pub mod Replies
 pub mod Asking
 pub mod Examples

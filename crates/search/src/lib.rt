@@ -1,15 +1,21 @@
 // Searchers: what answers whether some setting of a block leaves a root not false, and what every searcher keeps.
 #![tactic(auto)]
 
-ghost use Rattle.std.specs.Prelude.{◌≡◌, ◌-◌, ◌<◌, false, length, replicate};
+ghost use Rattle.std.specs.Prelude.{◌≡◌, ◌+◌, ◌^◌, ◌<◌, ◌≤◌, false, length, replicate};
+ghost use Rattle.valuation.specs.Circuit.{Ascending};
+ghost use Rattle.circuit.specs.Gates.{pairs};
 ghost use Rattle.valuation.specs.declared.Value.TheVariants.{Unknown};
 ghost use Rattle.search.specs.Queries.{Query, Sound};
 ghost use Rattle.search.specs.Asking.{asked};
 ghost use Rattle.search.specs.Answers.{Answer, Keeps, reply_of, range_after, marks_after};
+ghost use Rattle.search.specs.Replies.{later as later_by, steps_of};
 ghost use Rattle.search.specs.Examples.{BothOutcomes};
 
-use circuit::{Gate, Literal};
+use circuit::{Circuit, Gate, Literal};
 use valuation::Value;
+
+// The most nodes of a circuit: the constant, 128 variables and 8,000 gates. A searcher has memory for as many.
+pub const NODES: usize = 1 + 128 + 8000;
 
 // A query, but for the lists that a searcher may write: is there a setting of the range under which the root is not false?
 #[derive(Clone, Copy)]
@@ -25,6 +31,22 @@ pub struct Ask<'a> {
     pub allowance: u64,
 }
 
+impl<'a> Ask<'a> {
+    // The circuit of a query that may be asked.
+    pub fn circuit(self) -> Circuit<'a>
+        requires ascending { Ascending (1 + self.variables) (pairs self.gates.now) }
+        requires few_variables { self.variables ≤ 128 }
+        requires few_gates { length (pairs self.gates.now) ≤ 8000 }
+        ensures first { result.first ≡ 1 + self.entry.variables }
+        ensures gates { result.gates.now ≡ self.entry.gates.now }
+    {
+        Circuit {
+            first: 1 + self.variables,
+            gates: self.gates,
+        }
+    }
+}
+
 // What a searcher answers: a move or no move, with the steps that it needed, or that the allowance does not suffice. The setting of a move
 // stands in the range, the core of a no move in the marks.
 #[derive(Clone, Copy, PartialEq, Eq, Debug)]
@@ -34,11 +56,26 @@ pub enum Reply {
     Spent,
 }
 
+impl Reply {
+    // The reply, with some steps more.
+    pub fn later(self, steps: u64) -> Reply
+        requires { steps + steps_of self < 2 ^ 64 }
+        ensures { result ≡ later_by steps self }
+    {
+        match self {
+            Reply::Move(need) => Reply::Move(steps + need),
+            Reply::NoMove(need) => Reply::NoMove(steps + need),
+            Reply::Spent => Reply::Spent,
+        }
+    }
+}
+
 pub trait Searcher {
     // The meaning: for each query, allowance aside, one answer and one need.
     ghost meaning: { Self → Query → Answer };
 
     // Answers a query. `forced` has the forced values by node (unknown: not forced) and is put back; the range is unset and no node is marked.
+    // Three lists and no struct of them: what is required of them holds only before the call, since the answer is written into the same lists.
     fn query(
         &mut self,
         ask: Ask<'_>,
@@ -59,8 +96,6 @@ pub trait Searcher {
 }
 
 // Sound queries exist, with either outcome.
-pub fn both_outcomes() -> u8
+pub fn both_outcomes()
     ensures { BothOutcomes }
-{
-    0
-}
+{}

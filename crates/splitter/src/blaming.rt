@@ -1,49 +1,30 @@
 // Blame: which forced nodes make the root false. It goes from the root down: a forced node is marked and not entered, a false gate passes
 // it to its left input if that is false, else to its right, and a true gate passes it to both.
-//
-// The nodes that are blamed are noted in a list, each once, by flags, so that no other node is touched.
-ghost use Rattle.std.specs.Prelude.{◌≡◌, ℕ, ◌+◌, ◌*◌, ◌/◌, ◌<◌, ◌≤◌, true, false, length, get_or, replicate, if◌then◌else◌, slice_index, slice_index_or, slice_set};
+ghost use Rattle.std.specs.Prelude.{◌≡◌, ℕ, ◌+◌, ◌*◌, ◌/◌, ◌<◌, ◌≤◌, ◌≢◌, false, [], ◌∷◌, length, slice_index_or, vec_len, vec_capacity, IfOk};
 ghost use Rattle.circuit.specs.Gates.{pair, pairs};
+ghost use Rattle.search.specs.declared.TheConstants.{NODES};
 ghost use Rattle.splitting.specs.Blame.{passes, core};
 ghost use Rattle.splitting.specs.Blame.{cause as cause_by};
 ghost use Rattle.splitting.specs.Tree.{join};
-ghost use Rattle.splitting.specs.Worklist.{seen_count, noted};
-ghost use Rattle.valuation.specs.Circuit.{Ascending, lit, reads};
-ghost use Rattle.valuation.specs.Sweep.{marked};
+ghost use Rattle.splitting.specs.Worklist.{holds, noted, flag_count};
+ghost use Rattle.valuation.specs.Circuit.{lit, reads};
 
-use super::NODES;
-use circuit::Gate;
 use circuit::walking::literal_value;
-use search::Ask;
+use circuit::{Circuit, Gate, Literal};
+use search::NODES;
 use std::alloc::{AllocError, Global};
 use valuation::Value;
 
-// Memory to go through the nodes that are blamed.
+// The nodes that are blamed, each once, in a list, so that no other node is touched; flags tell which nodes stand in it.
 #[derive(Drop)]
 pub(super) struct Blame {
-    // which nodes are noted; none between queries
     seen: Vec<bool>,
-    // the noted nodes, as they were found
     order: Vec<usize>,
-    ghost clear: { seen.items ≡ replicate 8129 false },
-    ghost room: { length order.items ≡ 8129 },
-}
-
-// Notes a node, unless it is seen already, and says how many are noted then.
-fn note(node: usize, count: usize, seen: &mut [bool], order: &mut [usize]) -> usize
-    requires inside { node < length seen.old }
-    requires room { length seen.old ≤ length order.old }
-    requires counted { count ≡ seen_count seen.old }
-    ensures seen { seen.new ≡ slice_set seen.old node true }
-    ensures order { order.new ≡ (if get_or seen.old node false then order.old else slice_set order.old count node) }
-    ensures counted { result ≡ seen_count seen.new }
-{
-    if seen[node] {
-        return count;
-    }
-    seen[node] = true;
-    order[count] = node;
-    count + 1
+    ghost wide: { vec_len seen ≡ NODES },
+    ghost roomy: { NODES ≤ vec_capacity order },
+    ghost counted: { length order.items ≡ flag_count seen.items },
+    ghost listed: { (n : ℕ) → slice_index_or seen.items n false ≡ holds order.items n },
+    ghost once: { (i j : ℕ) → i < j → j < length order.items → slice_index_or order.items i 0 ≢ slice_index_or order.items j 0 },
 }
 
 // The input that makes a gate false: the left one if that is false, else the right one.
@@ -57,113 +38,85 @@ fn cause(gate: Gate, values: &[Value]) -> usize
     }
 }
 
-// Notes the inputs that a gate passes the blame to, by its value, and says how many nodes are noted then.
-fn pass_on(
-    gate: Gate,
-    value: Value,
-    values: &[Value],
-    count: usize,
-    seen: &mut [bool],
-    order: &mut [usize],
-) -> usize
-    requires left { (pair gate).left < 2 * length values.now }
-    requires right { (pair gate).right < 2 * length values.now }
-    requires covered { length values.now ≤ length seen.old }
-    requires room { length seen.old ≤ length order.old }
-    requires counted { count ≡ seen_count seen.old }
-    ensures seen { seen.new ≡ marked (passes value (lit (reads values.now) (pair gate).left) (pair gate)) seen.old }
-    ensures order { order.new ≡ noted (passes value (lit (reads values.now) (pair gate).left) (pair gate)) seen.old order.old }
-    ensures counted { result ≡ seen_count seen.new }
-{
-    match value {
-        Value::Unknown => count,
-        Value::False => note(cause(gate, values), count, seen, order),
-        Value::True => {
-            let one = note(gate.left().node(), count, seen, order);
-            note(gate.right().node(), one, seen, order)
-        }
-    }
-}
-
-// Takes the flags of the noted nodes away.
-fn forget(noted: &[usize], seen: &mut [bool])
-    requires inside { (i : ℕ) → i < length noted.now → slice_index noted.now i < length seen.old }
-    requires listed { (n : ℕ) → slice_index_or seen.old n false ≡ true → (i : ℕ) × ((i < length noted.now) × (slice_index noted.now i ≡ n)) }
-    ensures { seen.new ≡ replicate (length seen.old) false }
-{
-    for node in noted {
-        seen[*node] = false;
-    }
-}
-
-// Marks the forced nodes that are blamed for the root's value. No node is seen before or after.
-fn mark_blamed(
-    ask: Ask<'_>,
-    forced: &[Value],
-    values: &[Value],
-    seen: &mut [bool],
-    order: &mut [usize],
-    marks: &mut [bool],
-)
-    requires ascending { Ascending (1 + ask.variables) (pairs ask.gates.now) }
-    requires inside { ask.root.code / 2 < 1 + ask.variables + length ask.gates.now }
-    requires covered { length forced.now ≡ 1 + ask.variables + length ask.gates.now }
-    requires markable { length marks.old ≡ length forced.now }
-    requires valued { length forced.now ≤ length values.now }
-    requires seeing { length values.now ≤ length seen.old }
-    requires room { length seen.old ≤ length order.old }
-    requires clear { seen.old ≡ replicate (length seen.old) false }
-    ensures marks { marks.new ≡ join marks.old
-        (core (1 + ask.entry.variables) (pairs ask.entry.gates.now) (reads forced.now) (reads values.now) (ask.entry.root.code / 2)) }
-    ensures clear { seen.new ≡ seen.old }
-{
-    let first = 1 + ask.variables;
-    let mut count = note(ask.root.node(), 0, seen, order);
-    let mut done = 0;
-    while done < count {
-        let node = order[done];
-        if forced[node] != Value::Unknown {
-            marks[node] = true;
-        } else if node >= first {
-            count = pass_on(
-                ask.gates[node - first],
-                values[node],
-                values,
-                count,
-                seen,
-                order,
-            );
-        }
-        done += 1;
-    }
-    forget(&order[0..count], seen);
-}
-
 impl Blame {
-    pub(super) fn new(heap: Global) -> Result<Blame, AllocError> {
+    // A list that is empty.
+    pub(super) fn new(heap: Global) -> Result<Blame, AllocError>
+        ensures { IfOk result (λ b. b.order.items ≡ []) }
+    {
         Ok(Blame {
             seen: vec![in heap; false; NODES]?,
-            order: vec![in heap; 0; NODES]?,
+            order: Vec::with_capacity(heap, NODES)?,
         })
     }
 
-    // Marks the forced nodes that are blamed for the root's value.
+    // Notes a node, unless it stands in the list.
+    fn note(&mut self, node: usize)
+        requires { node < NODES }
+        ensures { self.new.order.items ≡ noted (node ∷ []) self.old.order.items }
+    {
+        if !self.seen[node] {
+            self.seen[node] = true;
+            self.order.push_reserved(node);
+        }
+    }
+
+    // Notes the inputs that a gate passes the blame to, by its value.
+    fn pass_on(&mut self, gate: Gate, value: Value, values: &[Value])
+        requires left { (pair gate).left < 2 * length values.now }
+        requires right { (pair gate).right < 2 * length values.now }
+        requires room { length values.now ≤ NODES }
+        ensures { self.new.order.items ≡ noted (passes value (lit (reads values.now) (pair gate).left) (pair gate)) self.old.order.items }
+    {
+        match value {
+            Value::Unknown => {}
+            Value::False => self.note(cause(gate, values)),
+            Value::True => {
+                self.note(gate.left().node());
+                self.note(gate.right().node());
+            }
+        }
+    }
+
+    // Takes the nodes out of the list.
+    fn clear(&mut self)
+        ensures { self.new.order.items ≡ [] }
+    {
+        while let Some(node) = self.order.pop() {
+            self.seen[node] = false;
+        }
+    }
+
+    // Marks the forced nodes that are blamed for the root's value. The list is empty before and after.
     pub(super) fn mark(
         &mut self,
-        ask: Ask<'_>,
+        circuit: Circuit<'_>,
+        root: Literal,
         forced: &[Value],
         values: &[Value],
         marks: &mut [bool],
     )
-        requires ascending { Ascending (1 + ask.variables) (pairs ask.gates.now) }
-        requires inside { ask.root.code / 2 < 1 + ask.variables + length ask.gates.now }
-        requires covered { length forced.now ≡ 1 + ask.variables + length ask.gates.now }
+        requires input { 0 < circuit.first }
+        requires inside { root.code / 2 < circuit.first + length circuit.gates.now }
+        requires covered { length forced.now ≡ circuit.first + length circuit.gates.now }
         requires markable { length marks.old ≡ length forced.now }
         requires valued { length forced.now ≤ length values.now }
-        requires room { length values.now ≤ 8129 }
-        ensures { marks.new ≡ join marks.old
-            (core (1 + ask.entry.variables) (pairs ask.entry.gates.now) (reads forced.now) (reads values.now) (ask.entry.root.code / 2)) }
+        requires room { length values.now ≤ NODES }
+        requires empty { self.old.order.items ≡ [] }
+        ensures marks { marks.new ≡ join marks.old (core circuit.entry.first (pairs circuit.entry.gates.now) (reads forced.now) (reads values.now) (root.code / 2)) }
+        ensures empty { self.new.order.items ≡ [] }
     {
-        mark_blamed(ask, forced, values, &mut self.seen, &mut self.order, marks);
+        self.note(root.node());
+        let mut done = 0;
+        // An index, since the list grows while it is gone through.
+        while done < self.order.len() {
+            let node = self.order[done];
+            if forced[node] != Value::Unknown {
+                marks[node] = true;
+            } else if node >= circuit.first {
+                self.pass_on(circuit.gates[node - circuit.first], values[node], values);
+            }
+            done += 1;
+        }
+        self.clear();
     }
 }

@@ -2,17 +2,16 @@
 // root is known there.
 #![tactic(auto)]
 
-ghost use Rattle.std.specs.Prelude.{◌≡◌, length};
+ghost use Rattle.std.specs.Prelude.{◌≡◌, [], vec_len};
+ghost use Rattle.search.specs.declared.TheConstants.{NODES};
 
 use blaming::Blame;
+use search::NODES;
 use std::alloc::{AllocError, Global};
 use valuation::Value;
 
 mod blaming;
 mod branching;
-
-// The most nodes of a circuit: the constant, 128 variables and 8,000 gates.
-const NODES: usize = 1 + 128 + 8000;
 
 // Owns the memory that a query works with, for the largest circuit.
 #[derive(Drop)]
@@ -20,7 +19,8 @@ pub struct Splitter {
     // the values of the nodes
     values: Vec<Value>,
     blame: Blame,
-    ghost valued: { length values.items ≡ 8129 },
+    ghost valued: { vec_len values ≡ NODES },
+    ghost unblamed: { blame.order.items ≡ [] },
 }
 
 impl Splitter {

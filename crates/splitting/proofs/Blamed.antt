@@ -13,7 +13,8 @@ use Rattle.valuation.proofs.Order.{known, unknown≢watched, some_false, left_fa
 use Rattle.valuation.proofs.Nodes.{nodes, half}
 use Rattle.valuation.proofs.Swept.{from_fits, sweep_exact}
 use Rattle.search.specs.Answers.{only}
-use Rattle.splitting.specs.Blame.{cause, passes, blames, blamed, is_known, core}
+use Rattle.search.specs.Answers.{is_known}
+use Rattle.splitting.specs.Blame.{cause, passes, blames, blamed, core}
 use Rattle.splitting.specs.Claims.{BlameKeeps}
 
 False≢Unknown : False ≢ Unknown

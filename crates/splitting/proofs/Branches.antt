@@ -13,7 +13,8 @@ use Rattle.search.specs.Asking.{asked}
 use Rattle.search.specs.Answers.{reply_of, range_after, core_of}
 use Rattle.splitting.specs.Blame.{core}
 use Rattle.splitting.specs.Tree.{root_at, join, lost_at, moved_at, tree}
-use Rattle.splitting.specs.Steps.{later, settled, inputs_at, Stands, settings_at, answer_at}
+use Rattle.search.specs.Replies.{later}
+use Rattle.splitting.specs.Steps.{settled, inputs_at, Stands, settings_at, answer_at}
 use Rattle.splitting.proofs.Marking.{core_same}
 use Rattle.splitting.proofs.Trees.{on, tree_lost, tree_moved, tree_end, tree_split, need_within, length_lost}
 use Rattle.splitting.proofs.Replies.{reply_paid, reply_spent, range_paid, range_spent, Lost, no_move_says, range_no_move, first_reply, first_range, second_reply, second_range, second_core, join_assoc}
@@ -32,19 +33,16 @@ unknown_left Unknown f t = refl
 unknown_left False f t = absurd (f refl)
 unknown_left True f t = absurd (t refl)
 
-move_not : (m n : ℕ) → Move m ≡ NoMove n → ⊥
-move_not m n e = let z : ◌≡◌ {A = ℕ} 0 1 = cc in omega arith
-
 later_not : (m n : ℕ) (r : Reply) → ((k : ℕ) → r ≢ NoMove k) → later m r ≡ NoMove n → ⊥
-later_not m n (Move k) h e = move_not (m + k) n e
+later_not m n (Move k) h e = cc
 later_not m n (NoMove k) h e = h k refl
-later_not m n Spent h e = let z : ◌≡◌ {A = ℕ} 0 1 = cc in omega arith
+later_not m n Spent h e = cc
 
 -- what a later no move comes from
 later_no_move : (m n : ℕ) (r : Reply) → later m r ≡ NoMove n → (k : ℕ) × (r ≡ NoMove k)
-later_no_move m n (Move k) e = absurd (move_not (m + k) n e)
+later_no_move m n (Move k) e = cc
 later_no_move m n (NoMove k) e = (k, refl)
-later_no_move m n Spent e = absurd (let z : ◌≡◌ {A = ℕ} 0 1 = cc in omega arith)
+later_no_move m n Spent e = cc
 
 module _ (q : Query) (sound : Sound q) (k : ℕ) (s : List Bool) (n : ℕ) (old : List Bool) where
   -- no step is left
@@ -54,8 +52,8 @@ module _ (q : Query) (sound : Sound q) (k : ℕ) (s : List Bool) (n : ℕ) (old 
       record {
         reply = sym (reply_spent (tree q k s) n (omega arith));
         range = sym (range_spent (tree q k s) n q.free (omega arith));
-        cores = λ m e'. absurd (let z : ◌≡◌ {A = ℕ} 0 1 = cc in omega arith);
-        inputs = λ m e'. absurd (let z : ◌≡◌ {A = ℕ} 0 1 = cc in omega arith);
+        cores = λ m e'. cc;
+        inputs = λ m e'. cc;
       }
 
   -- the root worked out, over values that have the inputs of the node
@@ -93,8 +91,8 @@ module _ (q : Query) (sound : Sound q) (k : ℕ) (s : List Bool) (n : ℕ) (old 
     moved t range fits is = record {
       reply = sym (ap (λ a. reply_of a n) t ∙ reply_paid (moved_at k s) n some);
       range = is ∙ setting_is q sound s k values fits still_stands ∙ sym (ap (λ a. range_after a n q.free) t ∙ range_paid (moved_at k s) n q.free some);
-      cores = λ m e. absurd (move_not 1 m e);
-      inputs = λ m e. absurd (move_not 1 m e);
+      cores = λ m e. cc;
+      inputs = λ m e. cc;
     }
 
     pub ended_moved : (root ≡ True) ⊎ ((root ≡ Unknown) × (k ≡ 0)) → (range : List Value) → length s + k ≡ q.free → range ≡ map settled (take q.free (drop q.start values)) → Ended q k s n (Move 1) range old old values

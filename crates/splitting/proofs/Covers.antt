@@ -13,7 +13,7 @@ use Rattle.splitting.proofs.Trees.{by_tree}
 module _ (q : Query) where
   -- at every node above a node the root is unknown
   above : {s : List Bool} → Node q s → (m : ℕ) → m < length s → root_at q (take m s) ≡ Unknown
-  above start m h = absurd (let z : ⊥ = omega arith in z)
+  above start m h = absurd (omega arith)
   above (below s b n u f) m h =
       elim (cases_lt m (length s)) [
         | inl l ↦ ap (root_at q) (take-append-le m s (b ∷ []) (omega arith)) ∙ above n m l
@@ -61,7 +61,7 @@ module _ (q : Query) where
   Refutes k s a = length s + k ≡ q.free → (c : List Bool) → a.outcome ≡ loses c → (u : List Bool) → End q (s ++ u) → root_at q (s ++ u) ≡ False
 
   no_loss : (m c : List Bool) → moves m ≡ loses c → ⊥
-  no_loss m c e = let z : ◌≡◌ {A = ℕ} 0 1 = cc in omega arith
+  no_loss m c e = cc
 
   lost : (k : ℕ) (s : List Bool) → root_at q s ≡ False → (u : List Bool) → End q (s ++ u) → root_at q (s ++ u) ≡ False
   lost k s e [] d = ap (root_at q) (append-nil s) ∙ e

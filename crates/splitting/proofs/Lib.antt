@@ -2,6 +2,7 @@ pub mod Blamed
 pub mod Trees
 pub mod Covers
 pub mod Working
+pub mod Listed
 pub mod Marking
 pub mod Replies
 pub mod Standing

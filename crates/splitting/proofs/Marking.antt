@@ -1,19 +1,20 @@
 -- The marks while the blamed nodes are gone through: in the end the core is added.
-use Rattle.std.proofs.Common.{◌≡◌, ℕ, ◌+◌, ◌-◌, ◌/◌, ◌<◌, ◌≤◌, Bool, true, false, cond, ◌&&◌, ◌||◌, ltb, ◌≢◌, ◌⊎◌, List, [], ◌∷◌, length, get_or, set, replicate, sym, refl, ap, ◌∙◌, subst, ap₂, inl, inr, arith}
-use Rattle.std.proofs.lemmas.List.{ext_get_or, get_or-set_same, get_or-replicate, length-replicate}
-use Rattle.std.proofs.lemmas.Bool.{cases_eq, cases_lt, and_parts, and_from, or_cases, or_left, or_right, lt-ltb, true≢false}
+use Rattle.std.proofs.Common.{◌≡◌, ℕ, ◌+◌, ◌-◌, ◌<◌, ◌≤◌, Bool, true, false, cond, ◌&&◌, ◌||◌, eqb, ltb, ◌≢◌, ◌⊎◌, List, [], ◌∷◌, length, get_or, set, sym, refl, ap, ◌∙◌, subst, ap₂, inl, inr, arith}
+use Rattle.std.proofs.lemmas.List.{ext_get_or, get_or-set_same}
+use Rattle.std.proofs.lemmas.Bool.{cases_eq, cases_lt, and_parts, and_from, or_cases, or_left, or_right, eq-eqb, lt-ltb}
 use Rattle.valuation.specs.declared.Value.{Value}
 use Rattle.valuation.specs.declared.Value.TheVariants.{Unknown, False, True}
 use Rattle.valuation.specs.Circuit.{Pair, gate, Ascending, Values, negated, signed, lit}
-use Rattle.valuation.specs.Sweep.{marked, In, From, begin, go}
+use Rattle.valuation.specs.Sweep.{In, From, begin, go}
 use Rattle.valuation.specs.Reach.{if_unknown}
 use Rattle.valuation.proofs.Order.{unknown≢watched}
-use Rattle.splitting.specs.Blame.{passes, blames, blamed, is_known, core}
+use Rattle.search.specs.Answers.{is_known}
+use Rattle.splitting.specs.Blame.{passes, blames, blamed, core}
 use Rattle.splitting.specs.Tree.{join}
-use Rattle.splitting.specs.Worklist.{seen_count, noted}
-use Rattle.splitting.proofs.Blamed.{passes_inputs, gate_low, blames_gate, blamed_exact, blamed_fits, length_core, core_on}
+use Rattle.splitting.specs.Worklist.{holds, noted}
+use Rattle.splitting.proofs.Blamed.{gate_low, blames_gate, blamed_exact, blamed_fits, length_core, core_on}
 use Rattle.splitting.proofs.Trees.{length_join, get_or_join}
-use Rattle.splitting.proofs.Working.{on, on_inside, on_set, set_on, seen_count_le, seen_count_none, Working, working_same, notes_keep, one_done, all_seen}
+use Rattle.splitting.proofs.Working.{on, on_set, set_on, place_of, Working, notes_keep, one_done, all_found}
 
 pub is_known_true : (x : Value) → x ≢ Unknown → is_known x ≡ true
 is_known_true Unknown k = absurd (k refl)
@@ -21,7 +22,7 @@ is_known_true False k = refl
 is_known_true True k = refl
 
 known_is : (x : Value) → is_known x ≡ true → x ≢ Unknown
-known_is Unknown e = λ u. (let z : ◌≡◌ {A = ℕ} 0 1 = cc in omega arith)
+known_is Unknown e = λ u. cc
 known_is False e = λ u. unknown≢watched true (sym u)
 known_is True e = λ u. unknown≢watched false (sym u)
 
@@ -78,9 +79,9 @@ blames_input first gs F v n h = ap (λ b. cond b [] (if_unknown (F n) (passes (v
 
 module _ (first : ℕ) (gs : List Pair) (F v : Values) (root : ℕ) (asc : Ascending first gs) (pos : 0 < first) (inside : root < first + length gs) where
   -- all gone through: the core is joined to the old marks
-  pub core_joined : (seen : List Bool) (order : List ℕ) (done : ℕ) (old marks : List Bool) → length old ≡ first + length gs → length marks ≡ length old → seen_count seen ≤ done → on seen root →
-      Working (blames first gs F v) (root ∷ []) seen order done → Marking F (blames first gs F v) (root ∷ []) old marks order done → marks ≡ join old (core first gs F v root)
-  core_joined seen order done old marks long same all begun w m =
+  pub core_joined : (order : List ℕ) (done : ℕ) (old marks : List Bool) → length old ≡ first + length gs → length marks ≡ length old → length order ≤ done → holds order root ≡ true →
+      Working (blames first gs F v) (root ∷ []) order done → Marking F (blames first gs F v) (root ∷ []) old marks order done → marks ≡ join old (core first gs F v root)
+  core_joined order done old marks long same all begun w m =
       ext_get_or false marks (join old (core first gs F v root)) (same ∙ sym (length_join old (core first gs F v root)))
       (λ n h. same_truth (get_or marks n false) (get_or (join old (core first gs F v root)) n false) (there n (omega arith)) (back n (omega arith)))
     where
@@ -101,119 +102,83 @@ module _ (first : ℕ) (gs : List Pair) (F v : Values) (root : ℕ) (asc : Ascen
             | inl x ↦ m.kept n x
             | inr x ↦
                 let p = and_parts (get_or (blamed first gs F v root) n false) (is_known (F n)) x in
-                let l = w.listed n (all_seen (blames first gs F v) (root ∷ []) seen order done all (λ j i. elim i [ inl e ↦ rw e begun | inr z ↦ absurd z ]) w ((blamed_exact first gs F v asc pos root inside n).0 p.0)) in
+                let l = place_of order n (all_found (blames first gs F v) (root ∷ []) order done all (λ j i. elim i [ inl e ↦ rw e begun | inr z ↦ absurd z ]) w ((blamed_exact first gs F v asc pos root inside n).0 p.0)) in
                 subst (on marks) l.1.1 (m.new l.0 (omega (arith, l.1.0)) (λ u. known_is (F n) p.1 (ap F (sym l.1.1) ∙ u)))
           ]
 
--- The blamed nodes while they are gone through: `count` are noted so far, `done` of them gone through.
-pub record Blaming (first : ℕ) (gs : List Pair) (F v : Values) (root : ℕ) (old marks seen : List Bool) (order : List ℕ) (count done : ℕ) : Type 0 where
-  pub counted : count ≡ seen_count seen
-  pub before : done ≤ count
-  pub begun : on seen root
-  pub working : Working (blames first gs F v) (root ∷ []) seen order done
+-- The blamed nodes while they are gone through, in the order in which they were found: `done` of them are.
+pub record Blaming (first : ℕ) (gs : List Pair) (F v : Values) (root : ℕ) (old marks : List Bool) (order : List ℕ) (done : ℕ) : Type 0 where
+  pub before : done ≤ length order
+  pub begun : holds order root ≡ true
+  pub working : Working (blames first gs F v) (root ∷ []) order done
   pub marking : Marking F (blames first gs F v) (root ∷ []) old marks order done
 
 module _ (first : ℕ) (gs : List Pair) (F v : Values) (root : ℕ) where
   -- the root is noted first
-  pub blaming_start : (size : ℕ) (old : List Bool) (order order' : List ℕ) (seen' : List Bool) (count : ℕ) → root < size → size ≤ length order → seen' ≡ set (replicate size false) root true →
-      order' ≡ cond (get_or (replicate size false) root false) order (set order 0 root) → count ≡ seen_count seen' → Blaming first gs F v root old old seen' order' count 0
-  blaming_start size old order order' seen' count inside room seen_is order_is counted =
-      let none = replicate size false in
-      let long = length-replicate size false in
-      let same : cond (get_or none root false) order (set order (seen_count none) root) ≡ order' = ap (λ n. cond (get_or none root false) order (set order n root)) (seen_count_none size) ∙ sym order_is in
-      let noted = notes_keep (blames first gs F v) (root ∷ []) (root ∷ []) none order 0 (λ m i. elim i [ inl e ↦ (omega arith, begin m (inl e)) | inr z ↦ absurd z ]) (omega arith) (omega arith) start in
-      record {
-        counted = counted;
-        before = omega arith;
-        begun = rw seen_is (noted.all root (inl refl));
-        working = working_same (blames first gs F v) (root ∷ []) 0 (sym seen_is) same noted.working;
-        marking = record { kept = λ n o. o; new = λ i h. absurd (let z : ⊥ = omega arith in z); only = λ n o. inl o };
-      }
-    where
-      none_on : (n : ℕ) → on (replicate size false) n → ⊥
-      none_on n o = true≢false (sym o ∙ get_or-replicate size n false false (omega (arith, on_inside (replicate size false) n o, length-replicate size false)))
+  pub blaming_start : (old : List Bool) → Blaming first gs F v root old old (root ∷ []) 0
+  blaming_start old = record {
+    before = omega arith;
+    begun = or_left (eqb root root) false (eq-eqb root root refl);
+    working = record {
+      reached = λ i h. subst (From (blames first gs F v) (root ∷ [])) (ap (λ k. get_or (root ∷ []) k 0) (let z : 0 ≡ i = omega arith in z)) (begin root (inl refl));
+      closed = λ i h. absurd (omega arith);
+    };
+    marking = record { kept = λ n o. o; new = λ i h. absurd (omega arith); only = λ n o. inl o };
+  }
 
-      start : Working (blames first gs F v) (root ∷ []) (replicate size false) order 0
-      start = record {
-        listed = λ n o. absurd (none_on n o);
-        shown = λ i h. absurd (let z : ⊥ = omega (arith, seen_count_none size) in z);
-        reached = λ n o. absurd (none_on n o);
-        closed = λ i h. absurd (let z : ⊥ = omega arith in z);
-      }
-
-  module _ (old marks seen : List Bool) (order : List ℕ) (count done : ℕ) (b : Blaming first gs F v root old marks seen order count done) where
+  module _ (old marks : List Bool) (order : List ℕ) (done : ℕ) (b : Blaming first gs F v root old marks order done) where
     -- the node gone through next
-    pub blaming_way : done < count → From (blames first gs F v) (root ∷ []) (get_or order done 0)
-    blaming_way h = b.working.reached _ (b.working.shown done (omega (arith, b.counted)))
+    pub blaming_way : done < length order → From (blames first gs F v) (root ∷ []) (get_or order done 0)
+    blaming_way h = b.working.reached done h
 
-    -- the order lies within the flags, for the pass that takes them away
-    pub blaming_inside : (i : ℕ) → i < count → get_or order i 0 < length seen
-    blaming_inside i h = on_inside seen _ (b.working.shown i (omega (arith, b.counted)))
-
-    pub blaming_listed : (n : ℕ) → on seen n → (i : ℕ) × ((i < count) × (get_or order i 0 ≡ n))
-    blaming_listed n o = let l = b.working.listed n o in (l.0, (omega (arith, l.1.0, b.counted), l.1.1))
-
-    module _ (node : ℕ) (is : get_or order done 0 ≡ node) (less : done < count) (room : length seen ≤ length order) where
+    module _ (node : ℕ) (is : get_or order done 0 ≡ node) (less : done < length order) where
       -- a node that passes the blame on, to nodes that are noted then
-      passed : (ns : List ℕ) → blames first gs F v node ≡ ns → ((m : ℕ) → In m ns → m < length seen) → (seen' : List Bool) (order' : List ℕ) (count' : ℕ) (marks' : List Bool) →
-          seen' ≡ marked ns seen → order' ≡ noted ns seen order → count' ≡ seen_count seen' → Marking F (blames first gs F v) (root ∷ []) old marks' order' (done + 1) → Blaming first gs F v root old marks' seen' order' count' (done + 1)
-      passed ns leads fits seen' order' count' marks' seen_is order_is counted marking =
-          let one = one_done (blames first gs F v) (root ∷ []) seen order done node is (λ m i. fits m (subst (In m) leads i)) room (omega (arith, b.counted)) b.working in
-          let seen_same : marked (blames first gs F v node) seen ≡ seen' = ap (λ xs. marked xs seen) leads ∙ sym seen_is in
-          let order_same : noted (blames first gs F v node) seen order ≡ order' = ap (λ xs. noted xs seen order) leads ∙ sym order_is in
+      passed : (ns : List ℕ) → blames first gs F v node ≡ ns → (marks' : List Bool) → Marking F (blames first gs F v) (root ∷ []) old marks' (noted ns order) (done + 1) →
+          Blaming first gs F v root old marks' (noted ns order) (done + 1)
+      passed ns leads marks' marking =
+          let P : List ℕ → Type 0 = λ xs. Working (blames first gs F v) (root ∷ []) (noted xs order) (done + 1) in
+          let one = one_done (blames first gs F v) (root ∷ []) order done node is less b.working in
           record {
-            counted = counted;
-            before = omega (arith, b.counted, one.grows, ap seen_count seen_same);
-            begun = subst (λ xs. on xs root) seen_same (one.kept root b.begun);
-            working = working_same (blames first gs F v) (root ∷ []) (done + 1) seen_same order_same one.working;
+            before = omega (arith, one.grows, ap (λ xs. length (noted xs order)) leads);
+            begun = ap (λ xs. holds (noted xs order) root) (sym leads) ∙ one.kept root b.begun;
+            working = subst P leads one.working;
             marking = marking;
           }
 
       -- a forced node is marked and not entered
-      pub blaming_forced : F node ≢ Unknown → node < length marks → Blaming first gs F v root old (set marks node true) seen order count (done + 1)
+      pub blaming_forced : F node ≢ Unknown → node < length marks → Blaming first gs F v root old (set marks node true) order (done + 1)
       blaming_forced forced inside =
-          passed [] (blames_forced first gs F v node forced) (λ m z. absurd z) seen order count (set marks node true) refl refl b.counted
+          passed [] (blames_forced first gs F v node forced) (set marks node true)
           (marking_forced F (blames first gs F v) (root ∷ []) old marks order done node is forced (subst (From (blames first gs F v) (root ∷ [])) is (blaming_way less)) inside b.marking)
 
       -- an input that is not forced passes nothing on
-      pub blaming_input : F node ≡ Unknown → node < first → Blaming first gs F v root old marks seen order count (done + 1)
+      pub blaming_input : F node ≡ Unknown → node < first → Blaming first gs F v root old marks order (done + 1)
       blaming_input free low =
-          passed [] (blames_input first gs F v node low) (λ m z. absurd z) seen order count marks refl refl b.counted
+          passed [] (blames_input first gs F v node low) marks
           (marking_past F (blames first gs F v) (root ∷ []) old marks order done node is order (λ i h. refl) free b.marking)
 
       -- a gate that is not forced passes it on by its value
-      pub blaming_gate : (k : ℕ) → node ≡ first + k → F node ≡ Unknown → ((gate gs k).left / 2 < length seen) × ((gate gs k).right / 2 < length seen) → (seen' : List Bool) (order' : List ℕ) (count' : ℕ) →
-          seen' ≡ marked (passes (v node) (lit v (gate gs k).left) (gate gs k)) seen → order' ≡ noted (passes (v node) (lit v (gate gs k).left) (gate gs k)) seen order → count' ≡ seen_count seen' →
-          Blaming first gs F v root old marks seen' order' count' (done + 1)
-      blaming_gate k at free inside seen' order' count' seen_is order_is counted =
+      pub blaming_gate : (k : ℕ) → node ≡ first + k → F node ≡ Unknown → Blaming first gs F v root old marks (noted (passes (v node) (lit v (gate gs k).left) (gate gs k)) order) (done + 1)
+      blaming_gate k at free =
           let ns = passes (v node) (lit v (gate gs k).left) (gate gs k) in
           let leads : blames first gs F v node ≡ ns = ap (blames first gs F v) at ∙ blames_gate first gs F v k (ap F (sym at) ∙ free) ∙ ap (λ n. passes (v n) (lit v (gate gs k).left) (gate gs k)) (sym at) in
-          let fits : (m : ℕ) → In m ns → m < length seen = λ m i. elim (passes_inputs (v node) (lit v (gate gs k).left) (gate gs k) m i) [ inl e ↦ omega (arith, inside.0) | inr e ↦ omega (arith, inside.1) ] in
-          let noting = notes_keep (blames first gs F v) (root ∷ []) ns seen order done (λ m i. (fits m i, go node m (subst (From (blames first gs F v) (root ∷ [])) is (blaming_way less)) (subst (In m) (sym leads) i))) room (omega (arith, b.counted)) b.working in
-          passed ns leads fits seen' order' count' marks seen_is order_is counted
-          (marking_past F (blames first gs F v) (root ∷ []) old marks order done node is order' (λ i h. ap (λ xs. get_or xs i 0) order_is ∙ noting.front i (omega (arith, b.counted))) free b.marking)
+          let ways = λ (m : ℕ) (i : In m ns). go node m (subst (From (blames first gs F v) (root ∷ [])) is (blaming_way less)) (subst (In m) (sym leads) i) in
+          let noting = notes_keep (blames first gs F v) (root ∷ []) ns order done ways (omega arith) b.working in
+          passed ns leads marks (marking_past F (blames first gs F v) (root ∷ []) old marks order done node is (noted ns order) (λ i h. noting.front i (omega arith)) free b.marking)
 
-  -- what a loop has of it before it goes on: there is room, and the next node is one of the circuit
-  pub blaming_ready : Ascending first gs → 0 < first → root < first + length gs → (size : ℕ) (old marks seen : List Bool) (order : List ℕ) (count done : ℕ) → size ≡ first + length gs →
-      Blaming first gs F v root old marks seen order count done → (count ≤ length seen) × (done < count → get_or order done 0 < size) × Blaming first gs F v root old marks seen order count done
-  blaming_ready asc pos inside size old marks seen order count done is b = (
-    omega (arith, b.counted, seen_count_le seen),
-    λ h. omega (arith, blamed_fits first gs F v asc pos root (blaming_way old marks seen order count done b h)),
-    b,
-  )
+  -- what a loop has of it before it goes on: the next node is one of the circuit
+  pub blaming_ready : Ascending first gs → 0 < first → root < first + length gs → (size : ℕ) (old marks : List Bool) (order : List ℕ) (done : ℕ) → size ≡ first + length gs → Blaming first gs F v root old marks order done →
+      (done < length order → get_or order done 0 < size) × Blaming first gs F v root old marks order done
+  blaming_ready asc pos inside size old marks order done is b = (λ h. omega (arith, blamed_fits first gs F v asc pos root (blaming_way old marks order done b h)), b)
 
-  pub blaming_same : {old marks marks' seen seen' : List Bool} {order order' : List ℕ} {count count' done : ℕ} → marks' ≡ marks → seen' ≡ seen → order' ≡ order → count' ≡ count →
-      Blaming first gs F v root old marks seen order count done → Blaming first gs F v root old marks' seen' order' count' done
-  blaming_same {old} {marks} {seen} {seen'} {order} {order'} {count} {count'} {done} m s o n b =
-      subst (λ ms. Blaming first gs F v root old ms seen' order' count' done) (sym m)
-      (subst (λ xs. Blaming first gs F v root old marks xs order' count' done) (sym s)
-      (subst (λ xs. Blaming first gs F v root old marks seen xs count' done) (sym o) (subst (λ k. Blaming first gs F v root old marks seen order k done) (sym n) b)))
+  pub blaming_same : {old marks marks' : List Bool} {order order' : List ℕ} {done : ℕ} → marks' ≡ marks → order' ≡ order → Blaming first gs F v root old marks order done → Blaming first gs F v root old marks' order' done
+  blaming_same {old} {marks} {order} {order'} {done} m o b =
+      subst (λ ms. Blaming first gs F v root old ms order' done) (sym m) (subst (λ xs. Blaming first gs F v root old marks xs done) (sym o) b)
 
   -- all gone through
-  pub blaming_end : Ascending first gs → 0 < first → root < first + length gs → (old marks seen : List Bool) (order : List ℕ) (count done : ℕ) → length old ≡ first + length gs → length marks ≡ length old → count ≤ done →
-      Blaming first gs F v root old marks seen order count done → marks ≡ join old (core first gs F v root)
-  blaming_end asc pos inside old marks seen order count done long same all b =
-      core_joined first gs F v root asc pos inside seen order done old marks long same (omega (arith, b.counted)) b.begun b.working b.marking
+  pub blaming_end : Ascending first gs → 0 < first → root < first + length gs → (old marks : List Bool) (order : List ℕ) (done : ℕ) → length old ≡ first + length gs → length marks ≡ length old →
+      length order ≤ done → Blaming first gs F v root old marks order done → marks ≡ join old (core first gs F v root)
+  blaming_end asc pos inside old marks order done long same all b = core_joined first gs F v root asc pos inside order done old marks long same all b.begun b.working b.marking
 
 -- the core rests on the values up to the root's node
 module _ (first : ℕ) (gs : List Pair) (F : Values) (root : ℕ) (asc : Ascending first gs) (pos : 0 < first) (inside : root < first + length gs) where

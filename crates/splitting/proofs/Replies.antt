@@ -2,10 +2,10 @@
 use Rattle.std.proofs.Common.{◌≡◌, ℕ, zero, suc, ◌+◌, ◌-◌, ◌<◌, ◌≤◌, Bool, true, false, cond, ◌||◌, ◌≢◌, List, [], ◌∷◌, length, replicate, sym, refl, ap, ◌∙◌, ap₂, inl, inr, arith}
 use Rattle.std.proofs.lemmas.Bool.{cases_lt, lt-ltb, le-ltb}
 use Rattle.valuation.specs.declared.Value.TheVariants.{Unknown}
-use Rattle.search.specs.declared.Reply.TheVariants.{Move, NoMove, Spent}
+use Rattle.search.specs.declared.Reply.TheVariants.{NoMove, Spent}
 use Rattle.search.specs.Answers.{Outcome, moves, loses, Answer, paid, reply_of, setting_of, range_after, core_of, marks_after}
 use Rattle.splitting.specs.Tree.{answer, join, second, ways}
-use Rattle.splitting.specs.Steps.{later, steps_of}
+use Rattle.search.specs.Replies.{later, steps_of}
 
 -- an answer whose need the allowance covers, and one whose need it does not
 module _ (a : Answer) (n : ℕ) where
@@ -29,21 +29,15 @@ pub record Lost (a : Answer) (n m : ℕ) : Type 0 where
   pub cost : a.need ≡ m
   pub within : m ≤ n
 
-move≢no_move : (m n : ℕ) → Move m ≡ NoMove n → ⊥
-move≢no_move m n e = let z : ◌≡◌ {A = ℕ} 0 1 = cc in omega arith
-
-spent≢no_move : (n : ℕ) → Spent ≡ NoMove n → ⊥
-spent≢no_move n e = let z : ◌≡◌ {A = ℕ} 0 1 = cc in omega arith
-
 pub no_move_says : (a : Answer) (n m : ℕ) → reply_of a n ≡ NoMove m → Lost a n m
 no_move_says a n m e =
     elim (cases_lt n a.need) [
-      | inl h ↦ absurd (spent≢no_move m (sym (reply_spent a n h) ∙ e))
+      | inl h ↦ (let z = sym (reply_spent a n h) ∙ e in cc)
       | inr h ↦ pick a.outcome refl h
     ]
   where
     pick : (o : Outcome) → a.outcome ≡ o → a.need ≤ n → Lost a n m
-    pick (moves s) is h = absurd (move≢no_move a.need m (sym (reply_paid a n h ∙ ap (λ o. paid o a.need) is) ∙ e))
+    pick (moves s) is h = let z = sym (reply_paid a n h ∙ ap (λ o. paid o a.need) is) ∙ e in cc
     pick (loses c) is h =
         let cost : a.need ≡ m = ap steps_of (sym (reply_paid a n h ∙ ap (λ o. paid o a.need) is) ∙ e) in
         record { core = c; loss = is; cost = cost; within = omega arith }
@@ -57,17 +51,6 @@ pub marks_no_move : (a : Answer) (n m size : ℕ) → reply_of a n ≡ NoMove m 
 marks_no_move a n m size e =
     let l = no_move_says a n m e in
     ap (λ b. cond b (replicate size false) (core_of a.outcome size)) (le-ltb n a.need (omega (arith, l.cost, l.within)))
-
-pub marks_other : (a : Answer) (n size : ℕ) → ((m : ℕ) → reply_of a n ≢ NoMove m) → marks_after a n size ≡ replicate size false
-marks_other a n size other =
-    elim (cases_lt n a.need) [
-      | inl h ↦ ap (λ b. cond b (replicate size false) (core_of a.outcome size)) (lt-ltb n a.need h)
-      | inr h ↦ ap (λ b. cond b (replicate size false) (core_of a.outcome size)) (le-ltb n a.need h) ∙ pick a.outcome refl h
-    ]
-  where
-    pick : (o : Outcome) → a.outcome ≡ o → a.need ≤ n → core_of o size ≡ replicate size false
-    pick (moves s) is h = refl
-    pick (loses c) is h = absurd (other a.need (reply_paid a n h ∙ ap (λ o. paid o a.need) is))
 
 -- the first way has no no move: its reply is the node's, a step later
 module _ (a b : Answer) (n : ℕ) (some : 1 ≤ n) (other : (m : ℕ) → reply_of a (n - 1) ≢ NoMove m) where
@@ -167,12 +150,12 @@ or_assoc false y z = refl
 
 pub join_assoc : (xs ys zs : List Bool) → length ys ≡ length xs → join (join xs ys) zs ≡ join xs (join ys zs)
 join_assoc [] ys zs e = refl
-join_assoc (x ∷ xs) [] zs e = absurd (let z : ⊥ = omega arith in z)
+join_assoc (x ∷ xs) [] zs e = absurd (omega arith)
 join_assoc (x ∷ xs) (y ∷ ys) [] e = refl
 join_assoc (x ∷ xs) (y ∷ ys) (z ∷ zs) e = ap₂ (λ b bs. b ∷ bs) (or_assoc x y z) (join_assoc xs ys zs (omega arith))
 
 pub join_none : (cs : List Bool) (n : ℕ) → length cs ≡ n → join (replicate n false) cs ≡ cs
 join_none [] zero e = refl
-join_none [] (suc n) e = absurd (let z : ⊥ = omega arith in z)
-join_none (c ∷ cs) zero e = absurd (let z : ⊥ = omega arith in z)
+join_none [] (suc n) e = absurd (omega arith)
+join_none (c ∷ cs) zero e = absurd (omega arith)
 join_none (c ∷ cs) (suc n) e = ap (λ bs. c ∷ bs) (join_none cs n (omega arith))

@@ -15,7 +15,7 @@ use Rattle.search.specs.Answers.{Outcome, moves, loses, Answer, Right, ceiling, 
 use Rattle.search.proofs.Cores.{more, stays_refuted}
 use Rattle.splitting.specs.Tree.{root_at, core_at, by_root, join, second, ways, lost_at, moved_at, tree, splits}
 use Rattle.splitting.specs.Claims.{SplitterKeeps}
-use Rattle.splitting.proofs.Working.{on_inside}
+use Rattle.search.proofs.Marks.{on_inside}
 use Rattle.splitting.proofs.Blamed.{length_core, core_forced, only_below, blame_keeps}
 
 -- both ways on, k variables unset after the next
@@ -73,7 +73,7 @@ or_none true = refl
 or_none false = refl
 
 pub get_or_join : (cs ds : List Bool) (n : ℕ) → n < length cs → get_or (join cs ds) n false ≡ (get_or cs n false || get_or ds n false)
-get_or_join [] ds n h = absurd (let z : ⊥ = omega arith in z)
+get_or_join [] ds n h = absurd (omega arith)
 get_or_join (c ∷ cs) [] n h = or_none (get_or (c ∷ cs) n false)
 get_or_join (c ∷ cs) (d ∷ ds) zero h = refl
 get_or_join (c ∷ cs) (d ∷ ds) (suc n) h = get_or_join cs ds n (omega arith)
@@ -207,7 +207,7 @@ module _ (q : Query) (sound : Sound q) where
       from_right n on = get_or_join c d n (omega (arith, on_inside d n on, l.0, r.0)) ∙ or_right (get_or c n false) (get_or d n false) on
 
       covers : (t : List Bool) → length t ≡ suc k → Refuted q (only (join c d) F) (s ++ t)
-      covers [] e = absurd (let z : ⊥ = omega arith in z)
+      covers [] e = absurd (omega arith)
       covers (false ∷ t) e =
           wider c (join c d) (s ++ (false ∷ t)) (omega (arith, length-append s (false ∷ t))) size from_left
           (subst (Refuted q (only c F)) (append_assoc s (false ∷ []) t) (l.2 t (omega arith)))

@@ -1,12 +1,12 @@
 -- What a refuted branch blames, from the root down. A forced node is not entered. A false gate passes the blame to its left input if that
 -- is false, else to its right; a true gate passes it to both.
-use Rattle.std.specs.Prelude.{ℕ, ◌+◌, ◌-◌, ◌/◌, Bool, true, false, cond, ◌&&◌, List, [], ◌∷◌, map, length, nat_lt, slice_index_or}
-use Rattle.std.specs.List.{range_with_len}
+use Rattle.std.specs.Prelude.{ℕ, ◌+◌, ◌-◌, ◌/◌, Bool, cond, List, [], ◌∷◌, length, nat_lt}
 use Rattle.valuation.specs.declared.Value.{Value}
 use Rattle.valuation.specs.declared.Value.TheVariants.{Unknown, False, True}
 use Rattle.valuation.specs.Circuit.{Pair, gate, Values, lit}
 use Rattle.valuation.specs.Sweep.{swept}
 use Rattle.valuation.specs.Reach.{if_unknown, inputs_of}
+use Rattle.search.specs.Answers.{forced_of}
 
 -- the input that makes a gate false, by its left literal's value
 abbrev pub cause : Value → Pair → ℕ
@@ -27,15 +27,6 @@ blames first gs F v n = cond (nat_lt n first) [] (if_unknown (F n) (passes (v n)
 -- which nodes are blamed for the root's value
 abbrev pub blamed : ℕ → List Pair → Values → Values → ℕ → List Bool
 blamed first gs F v root = swept (blames first gs F v) (first + length gs) (root ∷ [])
-
-abbrev pub is_known : Value → Bool
-is_known Unknown = false
-is_known False = true
-is_known True = true
-
--- those of the marked nodes that are forced
-abbrev pub forced_of : List Bool → Values → ℕ → List Bool
-forced_of ms F size = map (λ n. slice_index_or ms n false && is_known (F n)) (range_with_len 0 size)
 
 -- the core of a refuted branch: the forced nodes that are blamed
 abbrev pub core : ℕ → List Pair → Values → Values → ℕ → List Bool

@@ -4,25 +4,11 @@ use Rattle.valuation.specs.declared.Value.{Value}
 use Rattle.valuation.specs.declared.Value.TheVariants.{Unknown, False, True}
 use Rattle.valuation.specs.Three.{of_bool}
 use Rattle.valuation.specs.Circuit.{reads, input_values, settings_from}
-use Rattle.search.specs.declared.Reply.{Reply}
-use Rattle.search.specs.declared.Reply.TheVariants.{Move, NoMove, Spent}
 use Rattle.search.specs.declared.Ask.{Ask}
 use Rattle.search.specs.Queries.{Query}
 use Rattle.search.specs.Asking.{asked}
 use Rattle.search.specs.Answers.{Answer}
 use Rattle.splitting.specs.Tree.{tree}
-
--- a reply with some steps more
-abbrev pub later : ℕ → Reply → Reply
-later m (Move n) = Move (m + n)
-later m (NoMove n) = NoMove (m + n)
-later m Spent = Spent
-
--- the steps that a reply reports
-abbrev pub steps_of : Reply → ℕ
-steps_of (Move n) = n
-steps_of (NoMove n) = n
-steps_of Spent = 0
 
 -- a variable's value in a move: false if it is unset
 abbrev pub settled : Value → Value

@@ -1,12 +1,17 @@
--- A worklist: places to go through, each once. `seen` has those that were found so far, `order` lists them as they were found.
-use Rattle.std.specs.Prelude.{ℕ, ◌+◌, Bool, true, false, cond, List, [], ◌∷◌, slice_index_or, slice_set}
+-- A worklist: places to go through, each once, in a list as they were found, with a flag for each place that is found.
+use Rattle.std.specs.Prelude.{ℕ, ◌+◌, Bool, false, cond, ◌||◌, List, [], ◌∷◌, ◌++◌, ◌==◌}
 
--- how many places are seen
-abbrev pub seen_count : List Bool → ℕ
-seen_count [] = 0
-seen_count (b ∷ bs) = cond b 1 0 + seen_count bs
+-- whether a place stands in a list
+abbrev pub holds : List ℕ → ℕ → Bool
+holds [] n = false
+holds (m ∷ ms) n = m == n || holds ms n
 
--- the order with some places noted at its end, but for those that are seen
-abbrev pub noted : List ℕ → List Bool → List ℕ → List ℕ
-noted [] seen order = order
-noted (n ∷ ns) seen order = noted ns (slice_set seen n true) (cond (slice_index_or seen n false) order (slice_set order (seen_count seen) n))
+-- a list with some places noted at its end, but for those that stand in it
+abbrev pub noted : List ℕ → List ℕ → List ℕ
+noted [] order = order
+noted (n ∷ ns) order = noted ns (cond (holds order n) order (order ++ (n ∷ [])))
+
+-- how many flags are set
+abbrev pub flag_count : List Bool → ℕ
+flag_count [] = 0
+flag_count (b ∷ bs) = cond b 1 0 + flag_count bs

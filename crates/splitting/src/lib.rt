@@ -3,26 +3,18 @@
 
 ghost use Rattle.splitting.specs.Claims.{SplitterKeeps, BlameKeeps, EverySettingCovered, NoMoveRefutes};
 
-pub fn splitter_keeps() -> u8
+pub fn splitter_keeps()
     ensures { SplitterKeeps }
-{
-    0
-}
+{}
 
-pub fn blame_keeps() -> u8
+pub fn blame_keeps()
     ensures { BlameKeeps }
-{
-    0
-}
+{}
 
-pub fn every_setting_covered() -> u8
+pub fn every_setting_covered()
     ensures { EverySettingCovered }
-{
-    0
-}
+{}
 
-pub fn no_move_refutes() -> u8
+pub fn no_move_refutes()
     ensures { NoMoveRefutes }
-{
-    0
-}
+{}

@@ -1,31 +1,29 @@
-use Rattle.std.proofs.Common.{◌≡◌, ◌+◌, ◌-◌, ◌*◌, map, length, take, ap, ◌∙◌, arith}
-use Rattle.std.proofs.lemmas.List.{length-append, length-drop, length-take}
-use Rattle.valuation.specs.Circuit.{reads, input_values, settings_from}
-use Rattle.valuation.specs.Rails.{case_value, is_false}
+use Rattle.std.proofs.Common.{◌≡◌, ◌+◌, ◌*◌, List, map, length, take, ap, ap₂, sym, ◌∙◌, arith, rules}
+use Rattle.std.proofs.lemmas.List.{length-take, length-map, take_at}
+use Rattle.valuation.specs.Circuit.{lit, reads, values_of, input_values, settings_from}
+use Rattle.valuation.specs.Rails.{on, case_value, is_false}
 use Rattle.valuation.specs.Three.{of_bool}
 use Rattle.circuit.specs.declared.kinds.Wide.{Wide}
+use Rattle.circuit.specs.declared.Gate.{Gate}
+use Rattle.valuation.specs.declared.Value.{Value}
 use Rattle.circuit.specs.Gates.{pairs}
-use Rattle.circuit.proofs.Records.{length_pairs}
 use Rattle.counting.specs.Counting.{setting}
+use Rattle.counting.proofs.Cases.{length_setting}
 use Rattle.counting.proofs.Digits.{on_without}
-use Rattle.counting.proofs.Inputs.{case_root}
+use Rattle.counting.proofs.Inputs.{setting_at}
 use Rattle.counter.proofs.open_cases.Goals as goal
-
-pub evaluate-root-requires : goal.evaluate-root-requires
-evaluate-root-requires c =
-    let n = length_pairs c.args.ask.gates.now in
-    record {
-      ascending = c.requires.sound.ascending;
-      covered = omega (arith, c.requires.sound.covered);
-      room = simp (length-append, length-drop) (omega arith);
-      inside = omega (arith, c.requires.sound.rooted);
-    }
 
 pub returns : goal.returns
 returns c = λ i h.
-    let settings = settings_from c.args.ask.start (map of_bool (setting c.args.free (64 * c.args.group + i))) in
-    let front : length (take (1 + c.args.ask.variables - 0) c.args.values.now) ≡ 1 + c.args.ask.variables = simp length-take (omega arith) in
+    let t = 64 * c.args.group + i in
+    let settings = map of_bool (setting c.args.free t) in
+    let in_case : Wide → Value = λ v. case_value v.trues v.falses i in
+    let counted : length settings ≡ c.args.free = length-map (setting c.args.free t) of_bool ∙ length_setting c.args.free t in
+    let set = c.set_inputs_by.ensures i settings h (record { counted = counted; each = λ k x lt e. let v : in_case x ≡ of_bool (on t k) = search rules in v ∙ sym (setting_at c.args.free t k lt) }) in
+    let k = c.circuit-circuit.ensures in
+    let first = c.circuit-circuit.result.first in
+    let front : length (take first c.args.values.now) ≡ first = simp length-take (omega arith) in
+    let inputs = ap (map in_case) (take_at c.set_inputs_by.new.inputs _ first (c.set_inputs_by.auto.inputs ∙ front)) ∙ set ∙ ap (λ n. input_values n (reads c.args.forced.now) (settings_from c.args.ask.start settings)) front in
+    let root = λ (gs : List Gate) (vs : List Value). lit (reads (values_of (pairs gs) (reads c.args.forced.now) vs)) c.args.ask.root.code in
     on_without c.cases_that_count.result c.false_cases.result i _ _ c.false_cases.type_inv h (c.cases_that_count.ensures i h)
-    (c.false_cases.ensures i ∙ ap is_false (c.evaluate-root.ensures.value i h
-    ∙ case_root (λ (v : Wide). case_value v.trues v.falses i) (pairs c.args.ask.gates.now) (reads c.args.forced.now) settings
-    (1 + c.args.ask.variables) c.args.ask.root.code c.set_group.new.inputs _ (c.set_group.auto.inputs ∙ front) (c.set_group.ensures i h ∙ ap (λ k. input_values k (reads c.args.forced.now) settings) front)))
+    (c.false_cases.ensures i ∙ ap is_false (c.evaluate-root.ensures.value i h ∙ ap₂ root k.gates (inputs ∙ ap (λ n. input_values n (reads c.args.forced.now) (settings_from c.args.ask.start settings)) k.first)))

@@ -11,7 +11,7 @@ pub returns-then-group-ask : goal.returns-then-group-ask
 returns-then-group-ask c =
     let q : Query = asked c.args.ask c.args.forced.now (length c.args.range.now) in
     let s = counts_spent q c.args.ask.allowance (length q.forced) c.loop-group.group c.loop-group.invariant.1 c.if-group-ask.true (omega arith) in
-    record { same = refl; put_back = refl; reply = s.reply; range = c.loop-group.invariant.2 ∙ c.requires.unset ∙ s.range; marks = c.requires.unmarked ∙ s.marks }
+    record { same = refl; put_back = refl; reply = s.reply; range = c.loop-group.invariant.2 ∙ c.requires.unset ∙ s.set; marks = c.requires.unmarked ∙ s.marked }
 
 pub returns-in-Some : goal.returns-in-Some
 returns-in-Some c =
@@ -21,8 +21,8 @@ returns-in-Some c =
       same = refl;
       put_back = refl;
       reply = s.reply;
-      range = c.write_setting.ensures ∙ ap (λ n. map of_bool (setting n c.in-Some.case)) c.loop-group.auto.range ∙ s.range;
-      marks = c.requires.unmarked ∙ s.marks;
+      range = c.write_setting.ensures ∙ ap (λ n. map of_bool (setting n c.in-Some.case)) c.loop-group.auto.range ∙ s.set;
+      marks = c.requires.unmarked ∙ s.marked;
     }
 
 pub loop-group-preserved : goal.loop-group-preserved
@@ -34,4 +34,4 @@ pub returns : goal.returns
 returns c =
     let q : Query = asked c.args.ask c.args.forced.now (length c.args.range.now) in
     let s = counts_loses q c.args.ask.allowance (length q.forced) c.loop-group.group c.loop-group.invariant.1 c.loop-group.invariant.0 (omega arith) in
-    record { same = refl; put_back = refl; reply = ap NoMove c.group_count-groups.ensures ∙ s.reply; range = c.loop-group.invariant.2 ∙ c.requires.unset ∙ s.range; marks = c.mark_core.ensures ∙ s.marks }
+    record { same = refl; put_back = refl; reply = ap NoMove c.group_count-groups.ensures ∙ s.reply; range = c.loop-group.invariant.2 ∙ c.requires.unset ∙ s.set; marks = c.mark_core.ensures ∙ s.marked }

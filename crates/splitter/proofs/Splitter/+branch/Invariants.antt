@@ -1,0 +1,4 @@
+use Rattle.splitter.proofs.Splitter.+branch.Given as goal
+
+abbrev pub decreases-branch : goal.decreases-branch
+decreases-branch l = l.unset
