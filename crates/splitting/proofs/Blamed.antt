@@ -1,16 +1,17 @@
 -- Blame: where it goes, and that what is blamed keeps its value with only the core forced.
-use Rattle.std.proofs.Common.{◌≡◌, ℕ, ◌+◌, ◌-◌, ◌*◌, ◌/◌, ◌<◌, ◌≤◌, Bool, true, false, cond, ◌&&◌, ltb, ◌≢◌, ◌⊎◌, List, [], ◌∷◌, length, get_or, sym, refl, ap, ◌∙◌, subst, ap₂, inl, inr, arith}
+use Rattle.std.proofs.Common.{◌≡◌, ℕ, ◌+◌, ◌-◌, ◌/◌, ◌<◌, ◌≤◌, Bool, true, false, cond, ◌&&◌, ltb, ◌≢◌, ◌⊎◌, List, [], ◌∷◌, length, get_or, sym, refl, ap, ◌∙◌, subst, ap₂, inl, inr, arith}
 use Rattle.std.proofs.lemmas.List.{get_or_past}
 use Rattle.std.proofs.lemmas.List.FromFn.{length-map-range_with_len, get_or-map-range_with_len}
 use Rattle.std.proofs.lemmas.Bool.{cases_lt, le-ltb, ltb-false, true≢false}
 use Rattle.valuation.specs.declared.Value.{Value}
 use Rattle.valuation.specs.declared.Value.TheVariants.{Unknown, False, True}
 use Rattle.valuation.specs.Three.{and3, or_else, Below}
-use Rattle.valuation.specs.Circuit.{Pair, blank, gate, Ascending, Values, negated, signed, lit, both, Valuation}
+use Rattle.valuation.specs.Circuit.{Pair, gate, Ascending, Values, negated, signed, lit, both, Valuation}
 use Rattle.valuation.specs.Sweep.{In, From, begin, go}
 use Rattle.valuation.specs.Reach.{if_unknown}
 use Rattle.valuation.proofs.Order.{known, unknown≢watched, some_false, left_false, right_false, both_true, below_same, forced_known, forced_unknown}
 use Rattle.valuation.proofs.Nodes.{nodes, half}
+use Rattle.valuation.proofs.Cut.{gate_low, if_unknown_in}
 use Rattle.valuation.proofs.Swept.{from_fits, sweep_exact}
 use Rattle.search.specs.Answers.{only}
 use Rattle.search.specs.Answers.{is_known}
@@ -64,11 +65,6 @@ passes_enough False Unknown r l' r' g k e p q =
     elim (some_false Unknown r (sym e)) [ inl u ↦ absurd (unknown≢watched true u) | inr f ↦ right_false l' r' (q (inl refl) ∙ f) ]
 passes_enough True l r l' r' g k e p q = ap₂ and3 (p (inl refl)) (q (inr (inl refl))) ∙ sym e
 
-if_unknown_in : (x : Value) (ns : List ℕ) (j : ℕ) → In j (if_unknown x ns) → (x ≡ Unknown) × In j ns
-if_unknown_in Unknown ns j m = (refl, m)
-if_unknown_in False ns j m = absurd m
-if_unknown_in True ns j m = absurd m
-
 module _ (first : ℕ) (gs : List Pair) (F v : Values) where
   abbrev sent : ℕ → List ℕ
   sent k = passes (v (first + k)) (lit v (gate gs k).left) (gate gs k)
@@ -89,18 +85,11 @@ module _ (first : ℕ) (gs : List Pair) (F v : Values) where
       pick false e m = let r = if_unknown_in (F n) _ j m in (ltb-false n first e, r.0, r.1)
 
   module _ (asc : Ascending first gs) (pos : 0 < first) where
-    pub gate_low : (k : ℕ) → ((gate gs k).left < 2 * (first + k)) × ((gate gs k).right < 2 * (first + k))
-    gate_low k =
-        elim (cases_lt k (length gs)) [
-          | inl i ↦ asc k i
-          | inr i ↦ (let e : gate gs k ≡ blank = get_or_past gs k blank i in (rw e (omega arith), rw e (omega arith)))
-        ]
-
     -- the blame goes down
     pub blames_down : (i j : ℕ) → In j (blames first gs F v i) → j < i
     blames_down i j m =
         let r = blames_in i j m in
-        let l = gate_low (i - first) in
+        let l = gate_low first gs asc pos (i - first) in
         let f = r.0 in
         elim (passes_inputs _ _ _ j r.2) [ inl e ↦ omega arith | inr e ↦ omega arith ]
 

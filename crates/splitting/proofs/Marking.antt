@@ -12,7 +12,8 @@ use Rattle.search.specs.Answers.{is_known}
 use Rattle.splitting.specs.Blame.{passes, blames, blamed, core}
 use Rattle.splitting.specs.Tree.{join}
 use Rattle.splitting.specs.Worklist.{holds, noted}
-use Rattle.splitting.proofs.Blamed.{gate_low, blames_gate, blamed_exact, blamed_fits, length_core, core_on}
+use Rattle.valuation.proofs.Cut.{gate_low}
+use Rattle.splitting.proofs.Blamed.{blames_gate, blamed_exact, blamed_fits, length_core, core_on}
 use Rattle.splitting.proofs.Trees.{length_join, get_or_join}
 use Rattle.splitting.proofs.Working.{on, on_set, set_on, place_of, Working, notes_keep, one_done, all_found}
 
@@ -187,7 +188,7 @@ module _ (first : ℕ) (gs : List Pair) (F : Values) (root : ℕ) (asc : Ascendi
       elim (cases_lt n first) [
         | inl l ↦ blames_input first gs F v n l ∙ sym (blames_input first gs F w n l)
         | inr l ↦
-            let low = gate_low first gs F v asc pos (n - first) in
+            let low = gate_low first gs asc pos (n - first) in
             ap₂ (λ x y. cond (ltb n first) [] (if_unknown (F n) (passes x y (gate gs (n - first))))) (same n h) (ap (signed (negated (gate gs (n - first)).left)) (same _ (omega arith)))
       ]
 

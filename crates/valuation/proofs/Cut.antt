@@ -13,7 +13,16 @@ use Rattle.valuation.proofs.Nodes.{cut_exact}
 use Rattle.valuation.proofs.Computed.{equations_hold}
 use Rattle.valuation.proofs.Swept.{from_fits, sweep_exact}
 
-if_unknown_in : (x : Value) (ns : List ℕ) (j : ℕ) → In j (if_unknown x ns) → (x ≡ Unknown) × In j ns
+-- a gate's literals are low, and so are those of a gate that is not there
+pub gate_low : (first : ℕ) (gs : List Pair) → Ascending first gs → 0 < first → (k : ℕ) → ((gate gs k).left < 2 * (first + k)) × ((gate gs k).right < 2 * (first + k))
+gate_low first gs asc pos k =
+    elim (cases_lt k (length gs)) [
+      | inl i ↦ asc k i
+      | inr i ↦ (let e : gate gs k ≡ blank = get_or_past gs k blank i in (rw e (omega arith), rw e (omega arith)))
+    ]
+
+-- what is in the list of an unknown value only
+pub if_unknown_in : (x : Value) (ns : List ℕ) (j : ℕ) → In j (if_unknown x ns) → (x ≡ Unknown) × In j ns
 if_unknown_in Unknown ns j m = (refl, m)
 if_unknown_in False ns j m = absurd m
 if_unknown_in True ns j m = absurd m
@@ -37,17 +46,10 @@ module _ (first : ℕ) (gs : List Pair) (v : Values) where
   leads_at k u = leads_gate k ∙ ap (λ x. if_unknown x (inputs_of (gate gs k))) u
 
   module _ (asc : Ascending first gs) (pos : 0 < first) where
-    low : (k : ℕ) → ((gate gs k).left < 2 * (first + k)) × ((gate gs k).right < 2 * (first + k))
-    low k =
-        elim (cases_lt k (length gs)) [
-          | inl i ↦ asc k i
-          | inr i ↦ (let e : gate gs k ≡ blank = get_or_past gs k blank i in (rw e (omega arith), rw e (omega arith)))
-        ]
-
     down : (i j : ℕ) → In j (leads first gs v i) → j < i
     down i j m =
         let r = leads_in i j m in
-        let l = low (i - first) in
+        let l = gate_low first gs asc pos (i - first) in
         let f = r.0 in
         elim r.2 [ inl e ↦ omega arith | inr e ↦ omega arith ]
 
