@@ -7,6 +7,7 @@ ghost use Rattle.valuation.specs.Circuit.{blank};
 use circuit::Gate;
 
 // The entries being made: `made` of them, after the `used` ones. They are set to zero again unless they are committed.
+// Counts beside a lent slice, since the table keeps its size.
 pub(super) struct Making<'a> {
     pub(super) gates: &'a mut [Gate],
     // the node of the first gate

@@ -45,6 +45,7 @@ pub struct Settled {
 pub struct Full;
 
 // Settles a lost turn: its gates stand after the `used` ones, or the table is as it was if they do not fit. `first` is the first gate's node.
+// No struct for the table: over a lent list it would owe its law on free entries at the end, when some are in use.
 pub fn settle(
     gates: &mut [Gate],
     used: usize,

@@ -132,7 +132,8 @@ fn need(copies: &mut [Copies], place: Literal)
     put_copy(copies, place, plain(place));
 }
 
-// Needs the core's literals in negative polarity.
+// Needs the core's literals in negative polarity. A bound on the list is asked here and below, since no type of a lent list could carry it.
+// A loop of its own beside that of the joins: those may fail at any literal, and this may not.
 pub(super) fn need_core(core: &[bool], values: &[Value], copies: &mut [Copies])
     requires core { length copies.old ≤ length core.now }
     requires values { length copies.old ≤ length values.now }

@@ -199,6 +199,7 @@ fn line_agrees(heap: Global, all: &mut Searchers, line: &str) -> anyhow::Result<
     let _ = fields.next();
     let name = text(&mut fields)?;
     let case = case_of(heap, fields)?;
+    // A match, since the searchers are of five types, and none may be handed out as a `dyn`.
     match name {
         "splitter" => agrees(heap, &mut all.splitter, &case),
         "counter" => agrees(heap, &mut all.counter, &case),

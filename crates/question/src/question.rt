@@ -10,6 +10,7 @@ use circuit::Gate;
 
 // A well-formed prenex quantified Boolean formula over and-gates, with the gate table that it was loaded into: its gates stand there, and
 // zeros after them. Only a load makes one, so that whatever takes a question need not check it again.
+// The number of gates stands beside the table, since the table keeps the size that its owner gave it.
 #[derive(Drop)]
 pub struct Question {
     pub(super) frame: Frame,

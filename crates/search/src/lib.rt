@@ -49,6 +49,7 @@ impl<'a> Ask<'a> {
 
 // What a searcher answers: a move or no move, with the steps that it needed, or that the allowance does not suffice. The setting of a move
 // stands in the range, the core of a no move in the marks.
+// Three answers and no `Result`: spent is no error to pass on, and every caller tells the three apart.
 #[derive(Clone, Copy, PartialEq, Eq, Debug)]
 pub enum Reply {
     Move(u64),
