@@ -43,21 +43,18 @@ pub fn before(blocks: &[Block], depth: usize) -> usize
     requires { total blocks.now ≤ 128 }
     ensures { result ≡ variables_before blocks.now depth }
 {
-    let mut sum = 0;
-    for block in &blocks[0..depth.min(blocks.len())] {
-        sum += block.size;
-    }
-    sum
+    blocks
+        .iter()
+        .take(depth)
+        .map(|block| block.size)
+        .sum()
 }
 
 // How many variables a block has, counted from 0: none past the last.
 pub fn width(blocks: &[Block], depth: usize) -> usize
     ensures { result ≡ block_width blocks.now depth }
 {
-    match blocks.get(depth) {
-        Some(block) => block.size,
-        None => 0,
-    }
+    blocks.get(depth).map_or(0, |block| block.size)
 }
 
 // Works out the values of all nodes under a play. `unforced` is a list of unknowns.
@@ -112,47 +109,8 @@ pub struct Level {
     pub allowance: u64,
 }
 
-// Asks the searcher at a level, under the play below it. Work lists by node, zero before and after, but that the marks have the core of a
-// no move.
-fn ask_nodes<S: Searcher>(
-    searcher: &mut S,
-    level: Level,
-    gates: &[Gate],
-    play: &mut [Value],
-    values: &mut [Value],
-    forced: &mut [Value],
-    marks: &mut [bool],
-) -> Reply
-    requires fit { Fit level gates.now play.old }
-    requires values { values.old ≡ replicate (1 + level.variables + length gates.now) Unknown }
-    requires forced { forced.old ≡ replicate (1 + level.variables + length gates.now) Unknown }
-    requires marks { marks.old ≡ replicate (1 + level.variables + length gates.now) false }
-    ensures same { S.Searcher.meaning searcher.new ≡ S.Searcher.meaning searcher.old }
-    ensures right { RightReply (asked_of level gates.now play.old) level.allowance (reply_at (S.Searcher.meaning searcher.old) level gates.now play.old) }
-    ensures reply { result ≡ reply_for (reply_at (S.Searcher.meaning searcher.old) level gates.now play.old) }
-    ensures play { play.new ≡ play_for level.below (reply_at (S.Searcher.meaning searcher.old) level gates.now play.old) play.old }
-    ensures marks { marks.new ≡ marks_for (reply_at (S.Searcher.meaning searcher.old) level gates.now play.old) marks.old }
-    ensures values { values.new ≡ values.old }
-    ensures forced { forced.new ≡ forced.old }
-{
-    let first = 1 + level.variables;
-    force_cut(gates, first, level.root, play, values, forced, marks);
-    let ask = Ask {
-        variables: level.variables,
-        gates,
-        root: level.root,
-        start: 1 + level.below,
-        allowance: level.allowance,
-    };
-    let below = level.below;
-    let end = below + level.free;
-    let reply = searcher.query(ask, forced, &mut play[below..end], marks);
-    values.fill(Value::Unknown);
-    forced.fill(Value::Unknown);
-    reply
-}
-
-// The same over whole lists, of which only the entries of nodes are used.
+// Asks the searcher at a level, under the play below it. Of the work lists only the entries of nodes are used; they are zero before and after,
+// but that the marks have the core of a no move.
 pub fn ask_level<S: Searcher>(
     searcher: &mut S,
     level: Level,
@@ -174,16 +132,25 @@ pub fn ask_level<S: Searcher>(
     ensures values { values.new ≡ values.old }
     ensures forced { forced.new ≡ forced.old }
 {
-    let nodes = 1 + level.variables + gates.len();
-    ask_nodes(
-        searcher,
-        level,
+    let first = 1 + level.variables;
+    let nodes = first + gates.len();
+    let values = &mut values[0..nodes];
+    let forced = &mut forced[0..nodes];
+    let marks = &mut marks[0..nodes];
+    force_cut(gates, first, level.root, play, values, forced, marks);
+    let ask = Ask {
+        variables: level.variables,
         gates,
-        play,
-        &mut values[0..nodes],
-        &mut forced[0..nodes],
-        &mut marks[0..nodes],
-    )
+        root: level.root,
+        start: 1 + level.below,
+        allowance: level.allowance,
+    };
+    let below = level.below;
+    let end = below + level.free;
+    let reply = searcher.query(ask, forced, &mut play[below..end], marks);
+    values.fill(Value::Unknown);
+    forced.fill(Value::Unknown);
+    reply
 }
 
 // A lost level: the marks of its core, the play below it, the bounds of its block and of the one below it, and the root to be replaced.
@@ -222,21 +189,22 @@ pub fn settle_level(
     ensures copies { copies.new ≡ copies.old }
 {
     let nodes = first + used;
+    let values = &mut values[0..nodes];
     work_out(
         &gates[0..used],
         first,
         loss.play,
         &unforced[0..nodes],
-        &mut values[0..nodes],
+        values,
     );
     let lost = Lost {
         core: loss.core,
-        values: &values[0..nodes],
+        values,
         play: loss.play,
         bounds: loss.bounds,
         root: loss.root,
     };
     let settled = settle(gates, used, first, lost, copies);
-    values[0..nodes].fill(Value::Unknown);
+    values.fill(Value::Unknown);
     settled
 }

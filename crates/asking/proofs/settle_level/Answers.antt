@@ -1,12 +1,12 @@
-use Rattle.std.proofs.Common.{◌≡◌, ◌+◌, ◌-◌, List, length, take, drop, replicate, sym, refl, ap, ◌∙◌, subst, arith}
-use Rattle.std.proofs.lemmas.List.{length-take-le, take-map, take_at}
+use Rattle.std.proofs.Common.{◌≡◌, ◌+◌, ◌-◌, List, length, take, replicate, sym, refl, ap, ◌∙◌, subst, arith}
+use Rattle.std.proofs.lemmas.List.{length-take-le, take-map}
 use Rattle.valuation.specs.declared.Value.TheVariants.{Unknown}
 use Rattle.valuation.specs.Circuit.{Pair, Ascending}
 use Rattle.circuit.specs.Gates.{pair, pairs}
 use Rattle.copying.specs.Gates.{part_in}
 use Rattle.copying.specs.Places.{none}
 use Rattle.runs.specs.Turn.{values_under}
-use Rattle.asking.proofs.Fronts.{front_zero, filled_front}
+use Rattle.asking.proofs.Fronts.{front_zero, zero_front}
 use Rattle.asking.proofs.Settles.{answer_by, table_by}
 use Rattle.asking.proofs.settle_level.Goals as goal
 
@@ -25,15 +25,13 @@ work_out-requires c =
 pub settle-settled-requires : goal.settle-settled-requires
 settle-settled-requires c =
     let n = c.args.first + c.args.used in
-    let wide = length-take-le (n - 0) c.args.values.now (omega (arith, c.requires.values.long)) in
-    let vs = take_at c.work_out.new.values (drop (n - 0) c.args.values.now) (n - 0) (c.work_out.auto.values ∙ wide) in
     record {
       used = c.requires.used;
       small = c.requires.small;
       ascending = c.requires.ascending;
       blank = c.requires.blank;
       core = c.requires.core;
-      values = omega (arith, ap length vs, c.work_out.auto.values, wide);
+      values = omega (arith, c.work_out.auto.values, length-take-le (n - 0) c.args.values.now (omega (arith, c.requires.values.long)));
       below = c.requires.below;
       played = c.requires.played;
       work = c.requires.copies.long;
@@ -46,15 +44,13 @@ returns c =
     let n = c.args.first + used in
     let gs = pairs c.args.gates.now in
     let l = c.args.loss in
-    let wide = length-take-le (n - 0) c.args.values.now (omega (arith, c.requires.values.long)) in
-    let long = c.work_out.auto.values ∙ wide in
+    let long : length c.work_out.new.values ≡ n = c.work_out.auto.values ∙ length-take-le (n - 0) c.args.values.now (omega (arith, c.requires.values.long)) ∙ omega arith in
     let old : pairs (take (used - 0) c.args.gates.now) ≡ take used gs = ap (λ k. pairs (take k c.args.gates.now)) (let e : used - 0 ≡ used = omega arith in e) ∙ sym (take-map pair used c.args.gates.now) in
-    let vs = take_at c.work_out.new.values _ (n - 0) long ∙ c.work_out.ensures ∙ ap (λ (xs : List Pair). values_under c.args.first xs l.play.now) old in
+    let vs = c.work_out.ensures ∙ ap (λ (xs : List Pair). values_under c.args.first xs l.play.now) old in
     let part = part_in l.bounds l.play.now in
     record {
       answer = c.settle-settled.ensures.answer ∙ ap (answer_by c.args.first gs used part l.core.now l.root.code) vs;
       table = c.settle-settled.ensures.table ∙ ap (table_by c.args.first gs used part l.core.now l.root.code) vs;
-      values = filled_front Unknown (n - 0) c.args.values.now c.work_out.new.values c.fill.new.self (record { long = omega (arith, c.requires.values.long); all = c.requires.values.all }) long
-          (c.fill.ensures.after (λ y h. h));
+      values = zero_front Unknown n (n - 0) c.args.values.now c.fill.new.self c.requires.values (omega arith) (c.fill.ensures.after (λ y h. h) ∙ ap (λ k. replicate k Unknown) long);
       copies = c.settle-settled.ensures.work;
     }
