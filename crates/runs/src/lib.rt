@@ -85,6 +85,12 @@ impl Refusal {
     }
 }
 
+// A refused call on a paper, which is given back.
+pub struct Refused<P> {
+    pub refusal: Refusal,
+    pub paper: P,
+}
+
 // Every run with right replies is sound.
 pub fn fair_runs()
     ensures { FairRuns }

@@ -5,119 +5,121 @@ use Rattle.valuation.specs.declared.Value.TheVariants.{Unknown}
 use Rattle.valuation.specs.Circuit.{Ascending}
 use Rattle.circuit.specs.declared.Gate.{Gate}
 use Rattle.circuit.specs.Gates.{pair, pairs}
+use Rattle.search.specs.Queries.{Query}
 use Rattle.search.specs.Answers.{Answer}
-use Rattle.asking.specs.Asked.{reply_at, asked_of, reply_for, play_for, marks_over}
+use Rattle.asking.specs.declared.Level.{Level}
+use Rattle.asking.specs.Asked.{asked_of, reply_for, play_for, marks_over, Fit}
 use Rattle.runs.specs.Calls.{RightReply}
-use Rattle.bench.specs.Turning.{move_or_zero, no_move_or_zero, play_reply, marks_reply}
-use Rattle.bench.proofs.Lent.{clear_part, clear_all}
-use Rattle.bench.proofs.Replied.{table, Played, played_by, Marked, marked_with}
+use Rattle.bench.specs.declared.GateTable.{GateTable}
+use Rattle.bench.specs.declared.Lists.{Lists}
+use Rattle.bench.specs.Model.{sheets_of}
+use Rattle.bench.specs.Turning.{move_or_zero, no_move_or_zero, Ready, asked_over, reply_over}
+use Rattle.bench.proofs.Lent.{clear_part}
+use Rattle.bench.proofs.Replied.{table, move_le, no_move_le, Played, played_by, Marked, marked_with, sheets_by}
 use Rattle.bench.proofs.turning.ask_tables.Goals as goal
 
-pub ask_level-reply-requires : goal.ask_level-reply-requires
-ask_level-reply-requires g c =
-    let t = c.args.gates.now in
-    let l = c.args.level in
-    let p = c.args.play.now in
-    let m = c.args.marks.now in
-    let count : length c.gates.result.now ≡ t.used = ap length c.gates.ensures ∙ length-take-le t.used (vec_items t.gates) (omega (arith, t.room, t.gates.ok.0)) in
-    let live : pairs c.gates.result.now ≡ take t.used (pairs (vec_items t.gates)) = ap pairs c.gates.ensures ∙ sym (take-map pair t.used (vec_items t.gates)) in
-    record {
-      fit = record {
-        few_variables = c.requires.variables;
-        few_gates = omega (arith, count, t.room, t.few);
-        ascending = subst (λ (n : ℕ). Ascending n (pairs c.gates.result.now)) c.requires.first (subst (Ascending t.first) (sym live) t.ascending);
-        rooted = omega (arith, count, c.requires.rooted, c.requires.first);
-        inside = c.requires.inside;
-        few_free = c.requires.few_free;
-        long = omega (arith, c.deref_mut.ensures.len, c.requires.play);
-        unset = clear_part Unknown (vec_items p.values) c.deref_mut.result.now p.set l.below l.free p.values.len p.unset c.deref_mut.ensures.value c.requires.set (omega (arith, c.requires.inside, c.requires.play));
-      };
-      values = record { long = omega (arith, count, c.requires.values, c.requires.first, c.deref_mut-2.ensures.len); all = c.deref_mut-2.ensures.value ∙ c.args.values.now.zero ∙ ap (λ k. replicate k Unknown) (sym c.deref_mut-2.ensures.len) };
-      forced = record { long = omega (arith, count, c.requires.forced, c.requires.first, c.deref_mut-3.ensures.len); all = c.deref_mut-3.ensures.value ∙ c.args.forced.now.zero ∙ ap (λ k. replicate k Unknown) (sym c.deref_mut-3.ensures.len) };
-      marks = record { long = omega (arith, count, c.requires.marks, c.requires.first, c.deref_mut-4.ensures.len); all = clear_all false (vec_items m.marks) c.deref_mut-4.result.now m.shown m.marks.len m.clear c.deref_mut-4.ensures.value c.requires.shown c.deref_mut-4.ensures.len };
-    }
+-- what a level that may ask gives over the tables as they were
+module _ (m : Query → Answer) (l : Level) (g : GateTable) (t : Lists) (ready : Ready l g t) where
+  abbrev gs : List Gate
+  gs = take g.table.used (vec_items g.table.entries)
 
-pub invariant_of-values : goal.invariant_of-values
-invariant_of-values g c =
-    let v = c.args.values.now in
-    record { zero = with_items_is v.values c.ask_level-reply.new.values (c.ask_level-reply.auto.values ∙ c.deref_mut-2.ensures.len) ∙ c.ask_level-reply.ensures.values ∙ c.deref_mut-2.ensures.value ∙ v.zero }
+  abbrev r : Option Answer
+  r = reply_over m l g t
 
-pub invariant_of-forced : goal.invariant_of-forced
-invariant_of-forced g c =
-    let v = c.args.forced.now in
-    record { zero = with_items_is v.values c.ask_level-reply.new.forced (c.ask_level-reply.auto.forced ∙ c.deref_mut-3.ensures.len) ∙ c.ask_level-reply.ensures.forced ∙ c.deref_mut-3.ensures.value ∙ v.zero }
+  count : length gs ≡ g.table.used
+  count = length-take-le g.table.used (vec_items g.table.entries) (omega (arith, g.table.room, g.table.entries.ok.0))
+
+  fit : Fit l gs (vec_items t.play.entries)
+  fit =
+      record {
+        few_variables = ready.variables;
+        few_gates = omega (arith, count, g.table.few);
+        ascending = subst (λ (n : ℕ). Ascending n (pairs gs)) ready.first (subst (Ascending g.first) (take-map pair g.table.used (vec_items g.table.entries)) g.ascending);
+        rooted = omega (arith, count, ready.rooted, ready.first);
+        inside = ready.inside;
+        few_free = ready.few_free;
+        long = omega (arith, t.play.entries.ok.0, ready.play);
+        unset = clear_part Unknown (vec_items t.play.entries) (vec_items t.play.entries) t.play.used l.below l.free t.play.entries.len t.play.rest refl ready.set (omega (arith, ready.inside, ready.play));
+      }
+
+  play_kept : RightReply (asked_over l g t) l.allowance r → Played l.below l.free t.play.used t.play.bound r (vec_items t.play.entries)
+  play_kept right =
+      let n = t.play.entries.ok.0 in
+      played_by (asked_over l g t) l.allowance l.below l.free t.play.used t.play.bound (vec_items t.play.entries) refl ready.set (omega (arith, n, ready.inside, ready.play))
+      (t.play.rest ∙ ap (λ k. replicate (k - t.play.used) Unknown) (let e : t.play.entries.len ≡ length (vec_items t.play.entries) = omega (arith, n) in e)) r right
+
+  marks_kept : RightReply (asked_over l g t) l.allowance r → Marked (g.first + g.table.used) t.marks.used t.marks.bound r (vec_items t.marks.entries)
+  marks_kept right =
+      let n = t.marks.entries.ok.0 in
+      marked_with (asked_over l g t) l.allowance (g.first + g.table.used) t.marks.used t.marks.bound (vec_items t.marks.entries) (omega (arith, count, length-map gs pair, ready.first)) ready.shown
+      (omega (arith, n, ready.marks)) (t.marks.rest ∙ ap (λ k. replicate (k - t.marks.used) false) (let e : t.marks.entries.len ≡ length (vec_items t.marks.entries) = omega (arith, n) in e)) r right
+
+pub ask_level-reply-requires-clause-fit : goal.ask_level-reply-requires-clause-fit
+ask_level-reply-requires-clause-fit g c = rw (c.gates.ensures, c.deref_mut.ensures.value) (fit (g.S.Searcher.meaning c.args.searcher.now) c.args.level c.args.gates.now c.args.lists.now c.requires)
 
 pub invariant_of-play : goal.invariant_of-play
 invariant_of-play g c =
     let l = c.args.level in
-    let p = c.args.play.now in
-    let xs = c.deref_mut.result.now in
-    let gs = c.gates.result.now in
-    let r : Option Answer = reply_at (g.S.Searcher.meaning c.args.searcher.now) l gs xs in
-    let long = c.deref_mut.ensures.len in
-    let k : Played l.below l.free p.set p.bound r xs =
-    played_by (asked_of l gs xs) l.allowance l.below l.free p.set p.bound xs refl c.requires.set (omega (arith, long, c.requires.inside, c.requires.play))
-    (ap (drop p.set) c.deref_mut.ensures.value ∙ p.unset ∙ ap (λ n. replicate (n - p.set) Unknown) (sym long)) r c.ask_level-reply.ensures.right in
-    let e = with_items_is p.values c.ask_level-reply.new.play (c.ask_level-reply.auto.play ∙ long) in
-    let n : c.if_move.result ≡ move_or_zero (reply_for r) l.free = c.if_move.ensures ∙ ap (λ a. move_or_zero a l.free) c.ask_level-reply.ensures.reply in
+    let t = c.args.lists.now in
+    let p = t.play in
+    let m = g.S.Searcher.meaning c.args.searcher.now in
+    let r = reply_over m l c.args.gates.now t in
+    let k = play_kept m l c.args.gates.now t c.requires (rw (c.gates.ensures, c.deref_mut.ensures.value) at c.ask_level-reply.ensures.right) in
+    let n : c.in_use-set.result.0 ≡ l.below + move_or_zero (reply_for r) l.free =
+    c.in_use-set.ensures.set ∙ ap (λ a. l.below + move_or_zero a l.free) (rw (c.gates.ensures, c.deref_mut.ensures.value) at c.ask_level-reply.ensures.reply) in
+    let e = with_items_is p.entries c.ask_level-reply.new.play (c.ask_level-reply.auto.play ∙ c.deref_mut.ensures.len) in
+    let long : length (vec_items p.entries) ≡ p.entries.len = omega (arith, p.entries.ok.0) in
     record {
       room = omega (arith, k.room, n, long);
-      unset =
-          ap (drop (l.below + c.if_move.result)) (e ∙ c.ask_level-reply.ensures.play) ∙ ap (λ j. drop (l.below + j) (play_for l.below r xs)) n ∙ k.unset
-          ∙ ap₂ (λ j i. replicate (j - (l.below + i)) Unknown) long (sym n);
+      few = omega (arith, n, move_le (reply_for r) l.free, c.requires.inside, c.requires.variables);
+      rest =
+          ap (drop c.in_use-set.result.0) (e ∙ (rw (c.gates.ensures, c.deref_mut.ensures.value) at c.ask_level-reply.ensures.play)) ∙ ap (λ j. drop j (play_for l.below r (vec_items p.entries))) n ∙ k.unset
+          ∙ ap₂ (λ j i. replicate (j - i) Unknown) long (sym n);
     }
 
 pub invariant_of-marks : goal.invariant_of-marks
 invariant_of-marks g c =
     let l = c.args.level in
-    let t = c.args.gates.now in
-    let m = c.args.marks.now in
-    let xs = c.deref_mut.result.now in
-    let ms = c.deref_mut-4.result.now in
-    let gs = c.gates.result.now in
-    let r : Option Answer = reply_at (g.S.Searcher.meaning c.args.searcher.now) l gs xs in
-    let long = c.deref_mut-4.ensures.len in
-    let count : length gs ≡ t.used = ap length c.gates.ensures ∙ length-take-le t.used (vec_items t.gates) (omega (arith, t.room, t.gates.ok.0)) in
-    let k : Marked (t.first + t.used) m.shown m.bound r ms =
-    marked_with (asked_of l gs xs) l.allowance (t.first + t.used) m.shown m.bound ms (omega (arith, count, length-map gs pair, c.requires.first)) c.requires.shown (omega (arith, long, c.requires.marks))
-    (ap (drop m.shown) c.deref_mut-4.ensures.value ∙ m.clear ∙ ap (λ n. replicate (n - m.shown) false) (sym long)) r c.ask_level-reply.ensures.right in
-    let e = with_items_is m.marks c.ask_level-reply.new.marks (c.ask_level-reply.auto.marks ∙ long) in
-    let n : c.if_no_move-marks.result ≡ no_move_or_zero (reply_for r) (t.first + t.used) = c.if_no_move-marks.ensures ∙ ap (λ a. no_move_or_zero a (t.first + t.used)) c.ask_level-reply.ensures.reply in
-    record { room = omega (arith, k.room, n, long); clear = ap (drop c.if_no_move-marks.result) (e ∙ c.ask_level-reply.ensures.marks) ∙ ap (λ j. drop j (marks_over r ms)) n ∙ k.clear ∙ ap₂ (λ j i. replicate (j - i) false) long (sym n) }
-
-pub returns : goal.returns
-returns g c =
-    let l = c.args.level in
-    let t = c.args.gates.now in
-    let p = c.args.play.now in
-    let m = c.args.marks.now in
-    let mean = g.S.Searcher.meaning c.args.searcher.now in
-    let xs = c.deref_mut.result.now in
-    let ms = c.deref_mut-4.result.now in
-    let gs = c.gates.result.now in
-    let old = take t.used (vec_items t.gates) in
-    let r : Option Answer = reply_at mean l gs xs in
-    let same : r ≡ reply_at mean l old (vec_items p.values) = ap₂ (λ (us : List Gate) (vs : List Value). reply_at mean l us vs) c.gates.ensures c.deref_mut.ensures.value in
-    let long = c.deref_mut.ensures.len in
-    let wide = c.deref_mut-4.ensures.len in
-    let count : length gs ≡ t.used = ap length c.gates.ensures ∙ length-take-le t.used (vec_items t.gates) (omega (arith, t.room, t.gates.ok.0)) in
-    let k : Played l.below l.free p.set p.bound r xs =
-    played_by (asked_of l gs xs) l.allowance l.below l.free p.set p.bound xs refl c.requires.set (omega (arith, long, c.requires.inside, c.requires.play))
-    (ap (drop p.set) c.deref_mut.ensures.value ∙ p.unset ∙ ap (λ n. replicate (n - p.set) Unknown) (sym long)) r c.ask_level-reply.ensures.right in
-    let h : Marked (t.first + t.used) m.shown m.bound r ms =
-    marked_with (asked_of l gs xs) l.allowance (t.first + t.used) m.shown m.bound ms (omega (arith, count, length-map gs pair, c.requires.first)) c.requires.shown (omega (arith, wide, c.requires.marks))
-    (ap (drop m.shown) c.deref_mut-4.ensures.value ∙ m.clear ∙ ap (λ n. replicate (n - m.shown) false) (sym wide)) r c.ask_level-reply.ensures.right in
+    let t = c.args.lists.now in
+    let w = t.marks in
+    let f = c.args.gates.now in
+    let m = g.S.Searcher.meaning c.args.searcher.now in
+    let r = reply_over m l f t in
+    let k = marks_kept m l f t c.requires (rw (c.gates.ensures, c.deref_mut.ensures.value) at c.ask_level-reply.ensures.right) in
+    let n : c.in_use-set.result.1 ≡ no_move_or_zero (reply_for r) (f.first + f.table.used) =
+    c.in_use-set.ensures.marked ∙ ap (λ a. no_move_or_zero a (f.first + f.table.used)) (rw (c.gates.ensures, c.deref_mut.ensures.value) at c.ask_level-reply.ensures.reply) in
+    let e = with_items_is w.entries c.ask_level-reply.new.marks (c.ask_level-reply.auto.marks ∙ c.deref_mut-4.ensures.len) in
+    let long : length (vec_items w.entries) ≡ w.entries.len = omega (arith, w.entries.ok.0) in
     record {
-      same = c.ask_level-reply.ensures.same;
-      right = subst (λ (vs : List Value). RightReply (asked_of l old vs) l.allowance (reply_at mean l old vs)) c.deref_mut.ensures.value
-          (subst (λ (us : List Gate). RightReply (asked_of l us xs) l.allowance (reply_at mean l us xs)) c.gates.ensures c.ask_level-reply.ensures.right);
-      reply = c.ask_level-reply.ensures.reply ∙ ap reply_for same;
-      play = ap₂ (λ (j : ℕ) (vs : List Value). table p.bound (l.below + j) vs) (c.if_move.ensures ∙ ap (λ a. move_or_zero a l.free) c.ask_level-reply.ensures.reply)
-          (with_items_is p.values c.ask_level-reply.new.play (c.ask_level-reply.auto.play ∙ long) ∙ c.ask_level-reply.ensures.play)
-          ∙ k.sheet ∙ ap₂ (λ (a : Option Answer) (vs : List Value). play_reply l.below a (table p.bound p.set vs)) same c.deref_mut.ensures.value;
-      values = ap (λ (vs : List Value). table c.args.values.now.bound 0 vs) (with_items_is c.args.values.now.values c.ask_level-reply.new.values (c.ask_level-reply.auto.values ∙ c.deref_mut-2.ensures.len) ∙ c.ask_level-reply.ensures.values ∙ c.deref_mut-2.ensures.value);
-      forced = ap (λ (vs : List Value). table c.args.forced.now.bound 0 vs) (with_items_is c.args.forced.now.values c.ask_level-reply.new.forced (c.ask_level-reply.auto.forced ∙ c.deref_mut-3.ensures.len) ∙ c.ask_level-reply.ensures.forced ∙ c.deref_mut-3.ensures.value);
-      marks = ap₂ (λ (j : ℕ) (vs : List Bool). table m.bound j vs) (c.if_no_move-marks.ensures ∙ ap (λ a. no_move_or_zero a (t.first + t.used)) c.ask_level-reply.ensures.reply)
-          (with_items_is m.marks c.ask_level-reply.new.marks (c.ask_level-reply.auto.marks ∙ wide) ∙ c.ask_level-reply.ensures.marks)
-          ∙ h.sheet ∙ ap₂ (λ (a : Option Answer) (vs : List Bool). marks_reply a (table m.bound m.shown vs)) same c.deref_mut-4.ensures.value;
+      room = omega (arith, k.room, n, long);
+      few = omega (arith, n, no_move_le (reply_for r) (f.first + f.table.used), f.low, f.table.few);
+      rest =
+          ap (drop c.in_use-set.result.1) (e ∙ (rw (c.gates.ensures, c.deref_mut.ensures.value, c.deref_mut-4.ensures.value) at c.ask_level-reply.ensures.marks)) ∙ ap (λ j. drop j (marks_over r (vec_items w.entries))) n ∙ k.clear
+          ∙ ap₂ (λ j i. replicate (j - i) false) long (sym n);
     }
+
+pub returns-clause-right : goal.returns-clause-right
+returns-clause-right g c = rw (c.gates.ensures, c.deref_mut.ensures.value) at c.ask_level-reply.ensures.right
+
+pub returns-clause-reply : goal.returns-clause-reply
+returns-clause-reply g c = rw (c.gates.ensures, c.deref_mut.ensures.value) at c.ask_level-reply.ensures.reply
+
+pub returns-clause-lists : goal.returns-clause-lists
+returns-clause-lists g c =
+    let l = c.args.level in
+    let t = c.args.lists.now in
+    let f = c.args.gates.now in
+    let m = g.S.Searcher.meaning c.args.searcher.now in
+    let r = reply_over m l f t in
+    let a = c.ask_level-reply in
+    let right = rw (c.gates.ensures, c.deref_mut.ensures.value) at a.ensures.right in
+    let reply : a.result ≡ reply_for r = rw (c.gates.ensures, c.deref_mut.ensures.value) at a.ensures.reply in
+    let k = play_kept m l f t c.requires right in
+    let h = marks_kept m l f t c.requires right in
+    sheets_by l.below r (sheets_of t) _ _ _ _
+    (ap₂ (λ (j : ℕ) (vs : List Value). table t.play.bound j vs) (c.in_use-set.ensures.set ∙ ap (λ x. l.below + move_or_zero x l.free) reply)
+    (with_items_is t.play.entries a.new.play (a.auto.play ∙ c.deref_mut.ensures.len) ∙ (rw (c.gates.ensures, c.deref_mut.ensures.value) at a.ensures.play)) ∙ k.sheet)
+    (ap (λ (vs : List Value). table t.values.bound t.values.used vs) (with_items_is t.values.entries a.new.values (a.auto.values ∙ c.deref_mut-2.ensures.len) ∙ a.ensures.values ∙ c.deref_mut-2.ensures.value))
+    (ap (λ (vs : List Value). table t.forced.bound t.forced.used vs) (with_items_is t.forced.entries a.new.forced (a.auto.forced ∙ c.deref_mut-3.ensures.len) ∙ a.ensures.forced ∙ c.deref_mut-3.ensures.value))
+    (ap₂ (λ (j : ℕ) (vs : List Bool). table t.marks.bound j vs) (c.in_use-set.ensures.marked ∙ ap (λ x. no_move_or_zero x (f.first + f.table.used)) reply)
+    (with_items_is t.marks.entries a.new.marks (a.auto.marks ∙ c.deref_mut-4.ensures.len) ∙ (rw (c.gates.ensures, c.deref_mut.ensures.value, c.deref_mut-4.ensures.value) at a.ensures.marks)) ∙ h.sheet)
