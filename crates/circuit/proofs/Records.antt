@@ -1,6 +1,6 @@
 -- Gates as records and as pairs of literals.
-use Rattle.std.proofs.Common.{◌≡◌, ℕ, ◌+◌, ◌*◌, ◌<◌, ◌≤◌, Bool, true, false, List, ◌++◌, length, get_or, take, drop, set, sym, ap, subst, arith}
-use Rattle.std.proofs.lemmas.List.{get_or-map, length-map, take-map}
+use Rattle.std.proofs.Common.{◌≡◌, ℕ, ◌+◌, ◌*◌, ◌<◌, ◌≤◌, Bool, true, false, List, [], ◌∷◌, ◌++◌, length, get_or, take, drop, set, sym, ap, ◌∙◌, subst, arith}
+use Rattle.std.proofs.lemmas.List.{get_or-map, length-map, take-map, length_push, take_more, same_from_push}
 use Rattle.valuation.specs.Circuit.{blank, gate, Ascending, Values}
 use Rattle.valuation.specs.Sweep.{sweep}
 use Rattle.valuation.specs.Reach.{leads, reach}
@@ -33,3 +33,17 @@ reach_marked first gs v ms root n asc =
     subst (λ s. root < first + s → first + s ≤ length ms → ((i : ℕ) → i < first + s → get_or ms i false ≡ false) → root < n → first ≤ n → n ≤ first + s →
     sweep (leads first (pairs gs) v) n (set ms root true) ≡ reach first (pairs gs) v root ++ drop (first + s) ms)
     (length_pairs gs) (sweep_reach first (pairs gs) v ms root n asc)
+
+-- the last of some first elements, taken off
+module _ {X : Type 0} (xs left kept : List X) (x : X) (is : left ≡ kept ++ (x ∷ [])) (few : length left ≤ length xs) (first : left ≡ take (length left) xs) where
+  pub left_longer : length left ≡ length kept + 1
+  left_longer = ap length is ∙ length_push kept x
+
+  same : kept ++ (x ∷ []) ≡ take (length kept) xs ++ (get_or xs (length kept) x ∷ [])
+  same = sym is ∙ first ∙ ap (λ n. take n xs) left_longer ∙ take_more xs (length kept) x (omega (arith, left_longer))
+
+  pub kept_first : kept ≡ take (length kept) xs
+  kept_first = (same_from_push _ _ _ _ same).0
+
+  pub taken_off : x ≡ get_or xs (length kept) x
+  taken_off = (same_from_push _ _ _ _ same).1

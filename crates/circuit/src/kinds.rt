@@ -8,40 +8,32 @@ ghost use Rattle.valuation.specs.declared.Value.TheVariants.{Unknown};
 use valuation::Value;
 
 pub trait Kind: Copy {
-    // How many cases it carries. A clause cannot cite it, and says `cases`; `case_count` ties the two.
+    // How many cases it carries.
     const CASES: usize;
 
-    ghost cases: { ℕ };
+    ghost CASES: { ℕ };
 
     // The meaning: the value in each case.
     ghost at: { Self → ℕ → Value };
 
-    // `CASES`, for a proof.
-    fn case_count() -> usize
-        ensures { result ≡ cases };
-
     // One value in every case.
     fn constant(value: Value) -> Self
-        ensures { (c : ℕ) → c < cases → at result c ≡ value };
+        ensures { (c : ℕ) → c < CASES → at result c ≡ value };
 
     fn negated(self) -> Self
-        ensures { (c : ℕ) → c < cases → at result c ≡ not3 (at self c) };
+        ensures { (c : ℕ) → c < CASES → at result c ≡ not3 (at self c) };
 
     fn and(self, other: Self) -> Self
-        ensures { (c : ℕ) → c < cases → at result c ≡ and3 (at self c) (at other c) };
+        ensures { (c : ℕ) → c < CASES → at result c ≡ and3 (at self c) (at other c) };
 }
 
 // One case: the value itself.
 impl Kind for Value {
     const CASES: usize = 1;
 
-    ghost cases = { 1 };
+    ghost CASES = { 1 };
 
     ghost at = { λ v _. v };
-
-    fn case_count() -> usize {
-        Self::CASES
-    }
 
     fn constant(value: Value) -> Value {
         value
@@ -98,13 +90,9 @@ impl Wide {
 impl Kind for Wide {
     const CASES: usize = 64;
 
-    ghost cases = { 64 };
+    ghost CASES = { 64 };
 
     ghost at = { λ w c. case_value w.trues w.falses c };
-
-    fn case_count() -> usize {
-        Self::CASES
-    }
 
     fn constant(value: Value) -> Wide {
         match value {

@@ -1,8 +1,9 @@
 // Literals, gates, and the values of a circuit's nodes.
 #![tactic(auto)]
 
-ghost use Rattle.std.specs.Prelude.{◌≡◌, ◌/◌, ◌%◌, ◌==◌};
-ghost use Rattle.circuit.specs.Gates.{empty, pair};
+ghost use Rattle.std.specs.Prelude.{◌≡◌, ◌+◌, ◌-◌, ◌/◌, ◌%◌, ◌^◌, ◌<◌, ◌==◌, length, take};
+ghost use Rattle.circuit.specs.Gates.{empty, pair, pairs};
+ghost use Rattle.valuation.specs.Circuit.{Ascending};
 
 pub mod kinds;
 pub mod reaching;
@@ -73,5 +74,37 @@ impl Gate {
         ensures { result.code ≡ (pair self).right }
     {
         self.right
+    }
+}
+
+// Gates over inputs: node n below `first` is an input, and gate k is node `first + k`. Each gate reads earlier nodes only.
+#[derive(Clone, Copy)]
+pub struct Circuit<'a> {
+    // the node of the first gate
+    pub first: usize,
+    pub gates: &'a [Gate],
+    ghost ascending: { Ascending first (pairs gates.now) },
+    ghost countable: { first + length gates.now < 2 ^ 64 },
+}
+
+impl<'a> Circuit<'a> {
+    // How many nodes there are.
+    pub fn nodes(self) -> usize
+        ensures { result ≡ self.entry.first + length self.entry.gates.now }
+    {
+        self.first + self.gates.len()
+    }
+
+    // The circuit up to a literal's node.
+    pub fn up_to(self, literal: Literal) -> Circuit<'a>
+        requires inside { literal.code / 2 < self.first + length self.gates.now }
+        ensures first { result.first ≡ self.entry.first }
+        ensures gates { result.gates.now ≡ take (literal.code / 2 + 1 - self.entry.first) self.entry.gates.now }
+    {
+        let count = (literal.node() + 1).saturating_sub(self.first);
+        Circuit {
+            first: self.first,
+            gates: &self.gates[..count],
+        }
     }
 }

@@ -3,13 +3,12 @@
 // Callers are proved to meet what is required, and no test of it is run.
 ghost use Rattle.std.specs.Prelude.{◌≡◌, ℕ, ◌+◌, ◌*◌, ◌/◌, ◌<◌, ◌≤◌, false, ◌++◌, map, length, drop, replicate, slice_index_or};
 ghost use Rattle.circuit.specs.Gates.{pair, pairs};
-ghost use Rattle.valuation.specs.Circuit.{Ascending, reads};
+ghost use Rattle.valuation.specs.Circuit.{reads};
 ghost use Rattle.valuation.specs.Sweep.{marked};
 ghost use Rattle.valuation.specs.Reach.{inputs_of, reach, where_marked};
 ghost use Rattle.std.specs.List.{range_with_len};
 
-use super::walking::gates_up_to;
-use super::{Gate, Literal};
+use super::{Circuit, Gate, Literal};
 use valuation::Value;
 
 // Marks the inputs of a gate.
@@ -22,26 +21,22 @@ fn mark_inputs(gate: Gate, marks: &mut [bool])
     marks[gate.right().node()] = true;
 }
 
-// Marks the nodes that are reached from the root, by one pass from its node down. No node is marked beforehand.
-pub fn mark_reached(
-    gates: &[Gate],
-    values: &[Value],
-    first: usize,
-    root: Literal,
-    marks: &mut [bool],
-)
-    requires ascending { Ascending first (pairs gates.now) }
-    requires covered { first + length gates.now ≤ length values.now }
-    requires inside { root.code / 2 < first + length gates.now }
-    requires room { first + length gates.now ≤ length marks.old }
-    requires clear { (n : ℕ) → n < first + length gates.now → slice_index_or marks.old n false ≡ false }
-    ensures { marks.new ≡ reach first (pairs gates.now) (reads values.now) (root.code / 2) ++ drop (first + length gates.now) marks.old }
-{
-    marks[root.node()] = true;
-    for k in (0..gates_up_to(root, first)).rev() {
-        let node = first + k;
-        if marks[node] && values[node] == Value::Unknown {
-            mark_inputs(gates[k], marks);
+impl Circuit<'_> {
+    // Marks the nodes that are reached from the root, by one pass from its node down. No node is marked beforehand.
+    pub fn mark_reached(self, values: &[Value], root: Literal, marks: &mut [bool])
+        requires covered { self.first + length self.gates.now ≤ length values.now }
+        requires inside { root.code / 2 < self.first + length self.gates.now }
+        requires room { self.first + length self.gates.now ≤ length marks.old }
+        requires clear { (n : ℕ) → n < self.first + length self.gates.now → slice_index_or marks.old n false ≡ false }
+        ensures { marks.new ≡ reach self.entry.first (pairs self.entry.gates.now) (reads values.now) (root.code / 2)
+            ++ drop (self.entry.first + length self.entry.gates.now) marks.old }
+    {
+        marks[root.node()] = true;
+        for (k, gate) in self.up_to(root).gates.iter().enumerate().rev() {
+            let node = self.first + k;
+            if marks[node] && values[node] == Value::Unknown {
+                mark_inputs(*gate, marks);
+            }
         }
     }
 }
@@ -53,12 +48,12 @@ pub fn force_marked(values: &[Value], marks: &mut [bool], forced: &mut [Value])
     ensures forced { forced.new ≡ map (where_marked marks.old (reads values.now)) (range_with_len 0 (length marks.old)) }
     ensures clear { marks.new ≡ replicate (length marks.old) false }
 {
-    for node in 0..marks.len() {
-        forced[node] = if marks[node] && node > 0 {
+    for (node, entry) in forced.iter_mut().enumerate() {
+        *entry = if marks[node] && node > 0 {
             values[node]
         } else {
             Value::Unknown
         };
-        marks[node] = false;
     }
+    marks.fill(false);
 }

@@ -3,9 +3,9 @@ ghost use Rattle.circuit.specs.Gates.{pairs};
 ghost use Rattle.valuation.specs.Circuit.{Ascending};
 
 use circuit::kinds::{Kind, Wide};
-use circuit::reaching::{force_marked, mark_reached};
-use circuit::walking::{evaluate, set_inputs, walk};
-use circuit::{Gate, Literal};
+use circuit::reaching::force_marked;
+use circuit::walking::set_inputs;
+use circuit::{Circuit, Gate, Literal};
 use valuation::Value;
 
 const FIRST: usize = 9;
@@ -26,13 +26,13 @@ fn make_gates(start: u64, first: usize, gates: &mut [Gate])
     ensures { Ascending first (pairs gates.new) }
 {
     let mut number = start;
-    for k in 0..gates.len() {
+    for (k, gate) in gates.iter_mut().enumerate() {
         let bound = 2 * (first + k) as u64;
         let left = (number >> 33) % bound;
         number = next(number);
         let right = (number >> 33) % bound;
         number = next(number);
-        gates[k] = Gate::new(Literal::new(left as u16), Literal::new(right as u16));
+        *gate = Gate::new(Literal::new(left as u16), Literal::new(right as u16));
     }
 }
 
@@ -73,42 +73,43 @@ fn in_case(wide: Wide, case: u32) -> Value
 
 // Whether the walk of one case gives what the wide walk gave in that case.
 fn case_agrees(
-    gates: &[Gate],
+    circuit: Circuit<'_>,
     forced: &[Value],
     wide: &[Wide],
     case: u32,
     single: &mut [Value],
 ) -> bool
-    requires ascending { Ascending 9 (pairs gates.now) }
-    requires nodes { 9 + length gates.now ≡ length wide.now }
+    requires nodes { circuit.first + length circuit.gates.now ≡ length wide.now }
     requires covered { length forced.now ≡ length wide.now }
     requires room { length single.old ≡ length wide.now }
     requires case_bound { case < 64 }
 {
-    for node in 0..FIRST {
-        single[node] = in_case(wide[node], case);
+    for (value, in_cases) in single[..circuit.first].iter_mut().zip(wide) {
+        *value = in_case(*in_cases, case);
     }
-    walk(gates, forced, FIRST, single);
-    for node in 0..wide.len() {
-        if single[node] != in_case(wide[node], case) {
-            return false;
-        }
-    }
-    true
+    circuit.walk(forced, single);
+    single
+        .iter()
+        .zip(wide)
+        .all(|(value, in_cases)| *value == in_case(*in_cases, case))
 }
 
 // Whether both kinds agree in every case, on a circuit, forced nodes and inputs that are made from a number.
 fn kinds_agree(start: u64) -> bool {
-    let mut gates = [Gate::new(Literal::new(0), Literal::new(0)); NODES - FIRST];
+    let mut gates = [Gate::free(); NODES - FIRST];
     let mut forced = [Value::Unknown; NODES];
     let mut wide = [Wide::new(0, 0); NODES];
     let mut single = [Value::Unknown; NODES];
     make_gates(start, FIRST, &mut gates);
     make_forced(next(start), &mut forced);
     make_values(next(next(start)), &mut wide);
-    walk(&gates, &forced, FIRST, &mut wide);
+    let circuit = Circuit {
+        first: FIRST,
+        gates: &gates,
+    };
+    circuit.walk(&forced, &mut wide);
     for case in 0..64 {
-        if !case_agrees(&gates, &forced, &wide, case, &mut single) {
+        if !case_agrees(circuit, &forced, &wide, case, &mut single) {
             return false;
         }
     }
@@ -116,39 +117,44 @@ fn kinds_agree(start: u64) -> bool {
 }
 
 // Whether a node is the root's or an input of a marked gate that is unknown.
-fn is_reached(gates: &[Gate], values: &[Value], marks: &[bool], root: usize, node: usize) -> bool
-    requires covered { 9 + length gates.now ≡ length values.now }
+fn is_reached(
+    circuit: Circuit<'_>,
+    values: &[Value],
+    marks: &[bool],
+    root: usize,
+    node: usize,
+) -> bool
+    requires covered { circuit.first + length circuit.gates.now ≡ length values.now }
     requires room { length marks.now ≡ length values.now }
 {
-    for (k, gate) in gates.iter().enumerate() {
-        let reads = gate.left().node() == node || gate.right().node() == node;
-        if reads && marks[FIRST + k] && values[FIRST + k] == Value::Unknown {
-            return true;
-        }
-    }
+    let reads = |gate: &Gate| gate.left().node() == node || gate.right().node() == node;
+    let mut gates = circuit.gates.iter().enumerate();
+    let first = circuit.first;
     node == root
+        || gates.any(|(k, gate)| {
+            reads(gate) && marks[first + k] && values[first + k] == Value::Unknown
+        })
 }
 
 // The root's value, with the nodes from 2 on set.
 fn root_value(
-    gates: &[Gate],
+    circuit: Circuit<'_>,
     forced: &[Value],
     settings: &[Value],
     root: Literal,
     values: &mut [Value],
 ) -> Value
-    requires ascending { Ascending 9 (pairs gates.now) }
-    requires nodes { 9 + length gates.now ≡ length values.old }
+    requires nodes { circuit.first + length circuit.gates.now ≡ length values.old }
     requires covered { length forced.now ≡ length values.old }
     requires inside { root.code / 2 < length values.old }
 {
-    set_inputs(forced, 2, settings, &mut values[0..FIRST]);
-    evaluate(gates, forced, FIRST, root, values)
+    set_inputs(forced, 2, settings, &mut values[..circuit.first]);
+    circuit.evaluate(forced, root, values)
 }
 
 // Whether the marks are as each node's own rule says, and the root keeps its value with the marked nodes forced.
 fn reaching_holds(start: u64) -> bool {
-    let mut gates = [Gate::new(Literal::new(0), Literal::new(0)); NODES - FIRST];
+    let mut gates = [Gate::free(); NODES - FIRST];
     let mut settings = [Value::Unknown; 6];
     let mut forced = [Value::Unknown; NODES];
     let mut values = [Value::Unknown; NODES];
@@ -156,15 +162,19 @@ fn reaching_holds(start: u64) -> bool {
     let root = Literal::new(73 + (start % 4) as u16);
     make_gates(start, FIRST, &mut gates);
     make_forced(next(start), &mut settings);
-    let value = root_value(&gates, &forced, &settings, root, &mut values);
-    mark_reached(&gates, &values, FIRST, root, &mut marks);
-    for node in 0..NODES {
-        if marks[node] != is_reached(&gates, &values, &marks, root.node(), node) {
+    let circuit = Circuit {
+        first: FIRST,
+        gates: &gates,
+    };
+    let value = root_value(circuit, &forced, &settings, root, &mut values);
+    circuit.mark_reached(&values, root, &mut marks);
+    for (node, mark) in marks.iter().enumerate() {
+        if *mark != is_reached(circuit, &values, &marks, root.node(), node) {
             return false;
         }
     }
     force_marked(&values, &mut marks, &mut forced);
-    root_value(&gates, &forced, &[], root, &mut values) == value
+    root_value(circuit, &forced, &[], root, &mut values) == value
 }
 
 #[test]
@@ -172,8 +182,8 @@ fn kinds_agree_in_every_case(rt: HostRuntime) {
     for start in 0..32 {
         assert!(rt; kinds_agree(start));
     }
-    assert_eq!(rt; <Value as Kind>::case_count(), 1);
-    assert_eq!(rt; <Wide as Kind>::case_count(), 64);
+    assert_eq!(rt; <Value as Kind>::CASES, 1);
+    assert_eq!(rt; <Wide as Kind>::CASES, 64);
 }
 
 #[test]

@@ -7,116 +7,78 @@ ghost use Rattle.copies.specs.Claims.{SettlementMade, SettlementRight, RootValue
 ghost use Rattle.copies.specs.Claims.{RestsValued, RestsEarlier, RestsKept};
 ghost use Rattle.copies.specs.Worked.{WorkedSettlements, OnesWrong, PolaritiesWrong};
 
-pub fn copies_just() -> u8
+pub fn copies_just()
     ensures { CopiesJust }
-{
-    0
-}
+{}
 
-pub fn copies_own() -> u8
+pub fn copies_own()
     ensures { CopiesOwn }
-{
-    0
-}
+{}
 
-pub fn settles_just() -> u8
+pub fn settles_just()
     ensures { SettlesJust }
-{
-    0
-}
+{}
 
-pub fn settles_falls() -> u8
+pub fn settles_falls()
     ensures { SettlesFalls }
-{
-    0
-}
+{}
 
-pub fn settles_own() -> u8
+pub fn settles_own()
     ensures { SettlesOwn }
-{
-    0
-}
+{}
 
-pub fn core_true() -> u8
+pub fn core_true()
     ensures { CoreTrue }
-{
-    0
-}
+{}
 
-pub fn core_forces() -> u8
+pub fn core_forces()
     ensures { CoreForces }
-{
-    0
-}
+{}
 
-pub fn core_marked() -> u8
+pub fn core_marked()
     ensures { CoreMarked }
-{
-    0
-}
+{}
 
-pub fn core_same() -> u8
+pub fn core_same()
     ensures { CoreSame }
-{
-    0
-}
+{}
 
-pub fn settlement_made() -> u8
+pub fn settlement_made()
     ensures { SettlementMade }
-{
-    0
-}
+{}
 
-pub fn settlement_right() -> u8
+pub fn settlement_right()
     ensures { SettlementRight }
-{
-    0
-}
+{}
 
-pub fn root_value() -> u8
+pub fn root_value()
     ensures { RootValue }
-{
-    0
-}
+{}
 
-pub fn gates_counted() -> u8
+pub fn gates_counted()
     ensures { GatesCounted }
-{
-    0
-}
+{}
 
-pub fn rests_valued() -> u8
+pub fn rests_valued()
     ensures { RestsValued }
-{
-    0
-}
+{}
 
-pub fn rests_earlier() -> u8
+pub fn rests_earlier()
     ensures { RestsEarlier }
-{
-    0
-}
+{}
 
-pub fn rests_kept() -> u8
+pub fn rests_kept()
     ensures { RestsKept }
-{
-    0
-}
+{}
 
-pub fn worked_settlements() -> u8
+pub fn worked_settlements()
     ensures { WorkedSettlements }
-{
-    0
-}
+{}
 
-pub fn ones_wrong() -> u8
+pub fn ones_wrong()
     ensures { OnesWrong }
-{
-    0
-}
+{}
 
-pub fn polarities_wrong() -> u8
+pub fn polarities_wrong()
     ensures { PolaritiesWrong }
-{
-    0
-}
+{}

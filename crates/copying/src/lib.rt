@@ -86,8 +86,6 @@ pub fn settle(
     outcome
 }
 
-pub fn table_kept() -> u8
+pub fn table_kept()
     ensures { TableKept }
-{
-    0
-}
+{}

@@ -4,56 +4,38 @@
 ghost use Rattle.steps.specs.Steps.{PlaysSet, StartsRight, StartsRooted, QueryRight, MoveRight, LossRight, SettlementSteps, LostRight};
 ghost use Rattle.steps.specs.Worked.{WorkedLoss};
 
-pub fn starts_right() -> u8
+pub fn starts_right()
     ensures { StartsRight }
-{
-    0
-}
+{}
 
-pub fn starts_rooted() -> u8
+pub fn starts_rooted()
     ensures { StartsRooted }
-{
-    0
-}
+{}
 
-pub fn query_right() -> u8
+pub fn query_right()
     ensures { QueryRight }
-{
-    0
-}
+{}
 
-pub fn move_right() -> u8
+pub fn move_right()
     ensures { MoveRight }
-{
-    0
-}
+{}
 
-pub fn loss_right() -> u8
+pub fn loss_right()
     ensures { LossRight }
-{
-    0
-}
+{}
 
-pub fn settlement_steps() -> u8
+pub fn settlement_steps()
     ensures { SettlementSteps }
-{
-    0
-}
+{}
 
-pub fn lost_right() -> u8
+pub fn lost_right()
     ensures { LostRight }
-{
-    0
-}
+{}
 
-pub fn plays_set() -> u8
+pub fn plays_set()
     ensures { PlaysSet }
-{
-    0
-}
+{}
 
-pub fn worked_loss() -> u8
+pub fn worked_loss()
     ensures { WorkedLoss }
-{
-    0
-}
+{}

@@ -1,6 +1,8 @@
 // What the values of a circuit's nodes are, and the laws of them that every later proof uses.
 #![tactic(auto)]
 
+ghost use Rattle.std.specs.Prelude.{◌≡◌};
+ghost use Rattle.valuation.specs.Three.{of_bool};
 ghost use Rattle.valuation.specs.Claims.{EquationsHold, EquationsDetermine, OneList, SameInputs};
 ghost use Rattle.valuation.specs.Claims.{MoreKnown, UnforcedMore, SettingsMore, CoreMore, AllKnown};
 ghost use Rattle.valuation.specs.Claims.{AppendingKeeps, StoppingKeeps, SweepExact, ReachExact};
@@ -14,98 +16,74 @@ pub enum Value {
     True,
 }
 
-pub fn equations_hold() -> u8
+impl From<bool> for Value {
+    ghost from_gives = { λ b v. v ≡ of_bool b };
+
+    fn from(bit: bool) -> Value {
+        if bit { Value::True } else { Value::False }
+    }
+}
+
+pub fn equations_hold()
     ensures { EquationsHold }
-{
-    0
-}
+{}
 
-pub fn equations_determine() -> u8
+pub fn equations_determine()
     ensures { EquationsDetermine }
-{
-    0
-}
+{}
 
-pub fn one_list() -> u8
+pub fn one_list()
     ensures { OneList }
-{
-    0
-}
+{}
 
-pub fn same_inputs() -> u8
+pub fn same_inputs()
     ensures { SameInputs }
-{
-    0
-}
+{}
 
-pub fn more_known() -> u8
+pub fn more_known()
     ensures { MoreKnown }
-{
-    0
-}
+{}
 
-pub fn unforced_more() -> u8
+pub fn unforced_more()
     ensures { UnforcedMore }
-{
-    0
-}
+{}
 
-pub fn settings_more() -> u8
+pub fn settings_more()
     ensures { SettingsMore }
-{
-    0
-}
+{}
 
-pub fn core_more() -> u8
+pub fn core_more()
     ensures { CoreMore }
-{
-    0
-}
+{}
 
-pub fn all_known() -> u8
+pub fn all_known()
     ensures { AllKnown }
-{
-    0
-}
+{}
 
-pub fn appending_keeps() -> u8
+pub fn appending_keeps()
     ensures { AppendingKeeps }
-{
-    0
-}
+{}
 
-pub fn stopping_keeps() -> u8
+pub fn stopping_keeps()
     ensures { StoppingKeeps }
-{
-    0
-}
+{}
 
-pub fn sweep_exact() -> u8
+pub fn sweep_exact()
     ensures { SweepExact }
-{
-    0
-}
+{}
 
-pub fn reach_exact() -> u8
+pub fn reach_exact()
     ensures { ReachExact }
-{
-    0
-}
+{}
 
-pub fn cut_exact() -> u8
+pub fn cut_exact()
     ensures { CutExact }
-{
-    0
-}
+{}
 
-pub fn cut_right() -> u8
+pub fn cut_right()
     ensures { CutRight }
-{
-    0
-}
+{}
 
-pub fn cut_sound() -> u8
+pub fn cut_sound()
     ensures { CutSound }
-{
-    0
-}
+{}

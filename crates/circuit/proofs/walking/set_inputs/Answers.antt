@@ -1,18 +1,5 @@
-use Rattle.std.proofs.Common.{◌∙◌, arith}
-use Rattle.std.proofs.lemmas.List.{length-set}
-use Rattle.valuation.specs.Three.{or_else}
-use Rattle.valuation.specs.Circuit.{reads, settings_from}
-use Rattle.valuation.proofs.Walked.{filled_more, filled_all}
+use Rattle.std.proofs.Common.{rules, refl}
 use Rattle.circuit.proofs.walking.set_inputs.Goals as goal
 
-pub loop-node-preserved : goal.loop-node-preserved
-loop-node-preserved g c = (
-  length-set _ _ _ ∙ c.loop-node.invariant.0,
-  λ k h. filled_more (λ v. g.K.Kind.at v k) (λ n. or_else (reads c.args.forced.now n) (settings_from c.args.start c.args.settings.now n)) c.loop-node.inputs c.loop-node.node c.constant.result
-      (omega arith) (c.constant.ensures k h ∙ c.input_value.ensures) (c.loop-node.invariant.1 k h),
-)
-
 pub returns : goal.returns
-returns g c = λ k h.
-    filled_all (λ v. g.K.Kind.at v k) (λ n. or_else (reads c.args.forced.now n) (settings_from c.args.start c.args.settings.now n)) c.loop-node.inputs c.loop-node.node _
-    (omega arith) (omega arith) (c.loop-node.invariant.1 k h)
+returns g c = λ k h. c.set_inputs_by.ensures k c.args.settings.now h (record { counted = refl; each = λ j x i e. search rules })
