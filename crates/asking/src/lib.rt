@@ -3,7 +3,7 @@
 // Callers are proved to meet what is required, and no test of it is run.
 #![tactic(auto)]
 
-ghost use Rattle.std.specs.Prelude.{◌≡◌, ◌+◌, ◌-◌, ◌*◌, ◌/◌, ◌<◌, ◌≤◌, false, ◌++◌, length, take, drop, replicate};
+ghost use Rattle.std.specs.Prelude.{◌≡◌, ◌+◌, ◌/◌, ◌<◌, ◌≤◌, false, length, take, replicate};
 ghost use Rattle.circuit.specs.Gates.{pairs};
 ghost use Rattle.question.specs.Blocks.{total};
 ghost use Rattle.valuation.specs.declared.Value.TheVariants.{Unknown};
@@ -12,31 +12,18 @@ ghost use Rattle.runs.specs.State.{before as variables_before};
 ghost use Rattle.runs.specs.State.{width as block_width};
 ghost use Rattle.copying.specs.Places.{none};
 ghost use Rattle.copying.specs.Table.{BlankFrom};
-ghost use Rattle.runs.specs.Turn.{values_under, cut_list};
+ghost use Rattle.runs.specs.Turn.{cut_list};
 ghost use Rattle.runs.specs.Calls.{RightReply};
-ghost use Rattle.asking.specs.Asked.{asked_of, reply_at, reply_for, play_for, marks_for, marks_over, Fit, Zero};
+ghost use Rattle.asking.specs.Asked.{asked_of, reply_at, reply_for, play_for, marks_over, Fit, Zero};
 ghost use Rattle.asking.specs.Lost.{settle_answer, settle_table};
 
-use circuit::reaching::{force_marked, mark_reached};
-use circuit::walking::{set_inputs, walk};
-use circuit::{Gate, Literal};
+use circuit::reaching::force_marked;
+use circuit::{Circuit, Gate, Literal};
 use copying::places::Copies;
 use copying::{Bounds, Full, Lost, Settled, settle};
 use question::Block;
 use search::{Ask, Reply, Searcher};
 use valuation::Value;
-
-// Clears the entries from `from` to `used`, where those from `used` on are clear.
-pub fn clear_from<T: Copy>(cells: &mut [T], from: usize, used: usize, blank: T)
-    requires order { from ≤ used }
-    requires room { used ≤ length cells.old }
-    requires clear { drop used cells.old ≡ replicate (length cells.old - used) blank }
-    ensures { cells.new ≡ take from cells.old ++ replicate (length cells.old - from) blank }
-{
-    for k in from..used {
-        cells[k] = blank;
-    }
-}
 
 // How many variables the first blocks have.
 pub fn before(blocks: &[Block], depth: usize) -> usize
@@ -57,44 +44,25 @@ pub fn width(blocks: &[Block], depth: usize) -> usize
     blocks.get(depth).map_or(0, |block| block.size)
 }
 
-// Works out the values of all nodes under a play. `unforced` is a list of unknowns.
-pub fn work_out(
-    gates: &[Gate],
-    first: usize,
-    play: &[Value],
-    unforced: &[Value],
-    values: &mut [Value],
-)
-    requires ascending { Ascending first (pairs gates.now) }
-    requires unforced { unforced.now ≡ replicate (first + length gates.now) Unknown }
-    requires values { length values.old ≡ first + length gates.now }
-    ensures { values.new ≡ values_under first (pairs gates.now) play.now }
-{
-    set_inputs(unforced, 1, play, &mut values[0..first]);
-    walk(gates, unforced, first, values);
-}
-
 // Forces the cut of a root under a play: of the nodes that it reaches those that are known, but for node 0. Lists by node; the forced
 // values and the marks are zero before, and the marks after, too.
 fn force_cut(
-    gates: &[Gate],
-    first: usize,
+    circuit: Circuit<'_>,
     root: Literal,
     play: &[Value],
     values: &mut [Value],
     forced: &mut [Value],
     marks: &mut [bool],
 )
-    requires ascending { Ascending first (pairs gates.now) }
-    requires inside { root.code / 2 < first + length gates.now }
-    requires values { length values.old ≡ first + length gates.now }
-    requires forced { forced.old ≡ replicate (first + length gates.now) Unknown }
-    requires marks { marks.old ≡ replicate (first + length gates.now) false }
-    ensures forced { forced.new ≡ cut_list first (pairs gates.now) root.code play.now }
+    requires inside { root.code / 2 < circuit.first + length circuit.gates.now }
+    requires values { length values.old ≡ circuit.first + length circuit.gates.now }
+    requires forced { forced.old ≡ replicate (circuit.first + length circuit.gates.now) Unknown }
+    requires marks { marks.old ≡ replicate (circuit.first + length circuit.gates.now) false }
+    ensures forced { forced.new ≡ cut_list circuit.entry.first (pairs circuit.entry.gates.now) root.code play.now }
     ensures marks { marks.new ≡ marks.old }
 {
-    work_out(gates, first, play, forced, values);
-    mark_reached(gates, values, first, root, marks);
+    circuit.work_out(play, forced, values);
+    circuit.mark_reached(values, root, marks);
     force_marked(values, marks, forced);
 }
 
@@ -132,12 +100,15 @@ pub fn ask_level<S: Searcher>(
     ensures values { values.new ≡ values.old }
     ensures forced { forced.new ≡ forced.old }
 {
-    let first = 1 + level.variables;
-    let nodes = first + gates.len();
+    let circuit = Circuit {
+        first: 1 + level.variables,
+        gates,
+    };
+    let nodes = circuit.nodes();
     let values = &mut values[0..nodes];
     let forced = &mut forced[0..nodes];
     let marks = &mut marks[0..nodes];
-    force_cut(gates, first, level.root, play, values, forced, marks);
+    force_cut(circuit, level.root, play, values, forced, marks);
     let ask = Ask {
         variables: level.variables,
         gates,
@@ -188,15 +159,13 @@ pub fn settle_level(
     ensures values { values.new ≡ values.old }
     ensures copies { copies.new ≡ copies.old }
 {
-    let nodes = first + used;
-    let values = &mut values[0..nodes];
-    work_out(
-        &gates[0..used],
+    let circuit = Circuit {
         first,
-        loss.play,
-        &unforced[0..nodes],
-        values,
-    );
+        gates: &gates[0..used],
+    };
+    let nodes = circuit.nodes();
+    let values = &mut values[0..nodes];
+    circuit.work_out(loss.play, &unforced[0..nodes], values);
     let lost = Lost {
         core: loss.core,
         values,

@@ -44,8 +44,9 @@ query-reply-requires-clause-sound g c =
 pub query-reply-requires-clause-unmarked : goal.query-reply-requires-clause-unmarked
 query-reply-requires-clause-unmarked g c =
     let n = 1 + c.args.level.variables + length c.args.gates.now in
-    let wide : length c.force_cut.new.forced ≡ n = c.force_cut.auto.forced ∙ length-take-le (n - 0) c.args.forced.now (omega (arith, c.requires.forced.long)) ∙ omega arith in
-    c.force_cut.ensures.marks ∙ front_zero false n (n - 0) c.args.marks.now c.requires.marks (omega arith) ∙ ap (λ k. replicate k false) (sym wide)
+    let k = c.nodes-nodes.result in
+    let wide : length c.force_cut.new.forced ≡ n = c.force_cut.auto.forced ∙ length-take-le (k - 0) c.args.forced.now (omega (arith, c.requires.forced.long)) ∙ omega arith in
+    c.force_cut.ensures.marks ∙ front_zero false n (k - 0) c.args.marks.now c.requires.marks (omega arith) ∙ ap (λ j. replicate j false) (sym wide)
 
 pub returns : goal.returns
 returns g c =
@@ -58,23 +59,24 @@ returns g c =
     let a : Answer = m q in
     let r = reply_at m l gs play in
     let s = sound l gs play fit in
-    let k = g.met.S.Searcher.keeps c.args.searcher.now in
+    let keeps = g.met.S.Searcher.keeps c.args.searcher.now in
     let n = 1 + l.variables + length gs in
+    let k = c.nodes-nodes.result in
     let f = part l gs play fit in
     let e = put_is l gs play c.force_cut.new.forced _ c.force_cut.ensures.forced f in
-    let wide : length c.force_cut.new.forced ≡ n = c.force_cut.auto.forced ∙ length-take-le (n - 0) c.args.forced.now (omega (arith, c.requires.forced.long)) ∙ omega arith in
-    let long : length c.force_cut.new.values ≡ n = c.force_cut.auto.values ∙ length-take-le (n - 0) c.args.values.now (omega (arith, c.requires.values.long)) ∙ omega arith in
+    let wide : length c.force_cut.new.forced ≡ n = c.force_cut.auto.forced ∙ length-take-le (k - 0) c.args.forced.now (omega (arith, c.requires.forced.long)) ∙ omega arith in
+    let long : length c.force_cut.new.values ≡ n = c.force_cut.auto.values ∙ length-take-le (k - 0) c.args.values.now (omega (arith, c.requires.values.long)) ∙ omega arith in
     record {
       same = c.query-reply.ensures.same;
-      right = right_within l.allowance a q (k.right q s) (k.some q s) (k.bounded q s);
+      right = right_within l.allowance a q (keeps.right q s) (keeps.some q s) (keeps.bounded q s);
       reply = c.query-reply.ensures.reply ∙ ap (λ (x : Query). reply_of (m x) l.allowance) e ∙ reply_within l.allowance a;
       play = ap (λ (xs : List Value). put_mid l.below (l.below + l.free - l.below) play xs) (c.query-reply.ensures.range ∙ ap₂ (λ (x : Query) (j : ℕ). range_after (m x) l.allowance j) e f)
-          ∙ play_within l.allowance a l.below l.free (l.below + l.free - l.below) play (omega arith) fit.unset (fits_right q a (k.right q s));
-      marks = marks_front r (n - 0) c.args.marks.now c.query-reply.new.marks
+          ∙ play_within l.allowance a l.below l.free (l.below + l.free - l.below) play (omega arith) fit.unset (fits_right q a (keeps.right q s));
+      marks = marks_front r (k - 0) c.args.marks.now c.query-reply.new.marks
           (c.query-reply.ensures.marks ∙ ap₂ (λ (x : Query) (j : ℕ). marks_after (m x) l.allowance j) e wide ∙ marks_within l.allowance a n
-          ∙ ap (marks_for r) (sym (front_zero false n (n - 0) c.args.marks.now c.requires.marks (omega arith))))
-          (c.query-reply.auto.marks ∙ c.force_cut.auto.marks ∙ length-take-le (n - 0) c.args.marks.now (omega (arith, c.requires.marks.long)));
-      values = zero_front Unknown n (n - 0) c.args.values.now c.fill.new.self c.requires.values (omega arith) (c.fill.ensures.after (λ y h. h) ∙ ap (λ k. replicate k Unknown) long);
-      forced = zero_front Unknown n (n - 0) c.args.forced.now c.fill-2.new.self c.requires.forced (omega arith)
-          (c.fill-2.ensures.after (λ y h. h) ∙ ap (λ k. replicate k Unknown) (c.query-reply.auto.forced ∙ wide));
+          ∙ ap (marks_for r) (sym (front_zero false n (k - 0) c.args.marks.now c.requires.marks (omega arith))))
+          (c.query-reply.auto.marks ∙ c.force_cut.auto.marks ∙ length-take-le (k - 0) c.args.marks.now (omega (arith, c.requires.marks.long)));
+      values = zero_front Unknown n (k - 0) c.args.values.now c.fill.new.self c.requires.values (omega arith) (c.fill.ensures.after (λ y h. h) ∙ ap (λ j. replicate j Unknown) long);
+      forced = zero_front Unknown n (k - 0) c.args.forced.now c.fill-2.new.self c.requires.forced (omega arith)
+          (c.fill-2.ensures.after (λ y h. h) ∙ ap (λ j. replicate j Unknown) (c.query-reply.auto.forced ∙ wide));
     }
