@@ -2,7 +2,8 @@
 use Rattle.std.proofs.Common.{◌≡◌, ℕ, ◌+◌, ◌-◌, ◌≤◌, Bool, List, ◌++◌, length, take, drop, replicate, Some, None, Option, sym, refl, ap, ◌∙◌, arith}
 use Rattle.std.proofs.lemmas.List.{take-append-drop, take-replicate}
 use Rattle.search.specs.Answers.{Outcome, moves, loses, Answer}
-use Rattle.asking.specs.Asked.{Zero, marks_by, marks_for, marks_in, marks_over}
+use Rattle.asking.specs.Asked.{Zero, marks_in, marks_over}
+use Rattle.asking.proofs.Levels.{marks_by, marks_for}
 
 -- the front of a list of zeros
 pub front_zero : {X : Type 0} (zero : X) (n k : ℕ) (xs : List X) → Zero zero n xs → k ≡ n → take k xs ≡ replicate n zero

@@ -16,7 +16,7 @@ use Rattle.search.specs.Answers.{Outcome, moves, loses, Answer, Right, ceiling, 
 use Rattle.runs.specs.Turn.{values_under, cut_list, level_query, within, with_part}
 use Rattle.runs.specs.Calls.{RightReply}
 use Rattle.search.specs.declared.Reply.TheVariants.{Spent}
-use Rattle.asking.specs.Asked.{reply_for, play_by, play_for, marks_by, marks_for}
+use Rattle.asking.specs.Asked.{reply_for, play_by, play_for}
 
 -- the cut from computed values and marks
 pub cut_is : (first : ℕ) (gs : List Pair) (root : ℕ) (play vs : List Value) (ms : List Bool) (n : ℕ) → vs ≡ values_under first gs play → ms ≡ reach first gs (reads vs) (root / 2) → n ≡ first + length gs
@@ -60,6 +60,15 @@ module _ (variables : ℕ) (gs : List Pair) (root : ℕ) (play : List Value) (be
         play = settings_from 1 play;
         witness = record { constant = refl; unset = unset_at unset; gives = gives };
       }
+
+-- the marks of the nodes after an outcome: the core of a no move
+abbrev pub marks_by : Outcome → List Bool → List Bool
+marks_by (moves setting) marks = marks
+marks_by (loses core) marks = core
+
+abbrev pub marks_for : Option Answer → List Bool → List Bool
+marks_for None marks = marks
+marks_for (Some a) marks = marks_by a.outcome marks
 
 -- What a searcher leaves, by whether the allowance covers the need.
 module _ (allowance : ℕ) (a : Answer) where

@@ -30,11 +30,7 @@ pub fn before(blocks: &[Block], depth: usize) -> usize
     requires { total blocks.now ≤ 128 }
     ensures { result ≡ variables_before blocks.now depth }
 {
-    blocks
-        .iter()
-        .take(depth)
-        .map(|block| block.size)
-        .sum()
+    blocks.iter().take(depth).map(|block| block.size).sum()
 }
 
 // How many variables a block has, counted from 0: none past the last.
@@ -46,6 +42,8 @@ pub fn width(blocks: &[Block], depth: usize) -> usize
 
 // Forces the cut of a root under a play: of the nodes that it reaches those that are known, but for node 0. Lists by node; the forced
 // values and the marks are zero before, and the marks after, too.
+// The lists are no struct of `&mut`s here and below: a clause would name each by its place, as `work.exit.1.0`, and who lends parts of its
+// lists in one would learn nothing of them.
 fn force_cut(
     circuit: Circuit<'_>,
     root: Literal,
@@ -125,6 +123,7 @@ pub fn ask_level<S: Searcher>(
 }
 
 // A lost level: the marks of its core, the play below it, the bounds of its block and of the one below it, and the root to be replaced.
+// `copying::Lost` has the nodes' values beside these: whoever hands over a loss does not have them, since settling works them out.
 #[derive(Clone, Copy)]
 pub struct Loss<'a> {
     pub core: &'a [bool],

@@ -105,11 +105,10 @@ pub struct Slip {
     stub: Stub,
 }
 
-// What close takes: the present paper, or nothing after a verdict.
+// The present paper. After a verdict there is none.
 pub enum Paper {
     Ticket(Ticket),
     Slip(Slip),
-    Nothing,
 }
 
 // A bench that was opened, with its ticket and the question's gates as a table of their own.
@@ -148,6 +147,6 @@ pub struct Closed<S> {
 pub struct Unclosed<S> {
     pub refusal: Refusal,
     pub bench: Bench<S>,
-    pub paper: Paper,
+    pub paper: Option<Paper>,
     pub gates: GateTable,
 }

@@ -50,13 +50,9 @@ impl<S> Bench<S> {
     pub(super) fn owns(&self, gates: &GateTable, lists: &Lists) -> bool
         ensures { result ≡ own (model self.now gates.now lists.now) }
     {
-        if !are_bound(gates, lists, self.desk.stamp) {
-            return false;
-        }
-        if !fits_shape(&self.frame, &self.desk, gates, lists) {
-            return false;
-        }
-        lists.are_roomy(self.frame.variables(), gates.table.entries.len())
+        are_bound(gates, lists, self.desk.stamp)
+            && fits_shape(&self.frame, &self.desk, gates, lists)
+            && lists.are_roomy(self.frame.variables(), gates.table.entries.len())
     }
 }
 

@@ -9,9 +9,9 @@ use Rattle.search.specs.Queries.{Query, Sound}
 use Rattle.search.specs.Answers.{Answer, reply_of, range_after, marks_after}
 use Rattle.runs.specs.Turn.{cut_list, within}
 use Rattle.asking.specs.declared.Level.{Level}
-use Rattle.asking.specs.Asked.{asked_of, reply_at, marks_for, Fit}
+use Rattle.asking.specs.Asked.{asked_of, reply_at, Fit}
 use Rattle.asking.proofs.Fronts.{front_zero, zero_front, marks_front}
-use Rattle.asking.proofs.Levels.{level_sound, reply_within, marks_within, play_within, right_within, fits_right}
+use Rattle.asking.proofs.Levels.{marks_for, level_sound, reply_within, marks_within, play_within, right_within, fits_right}
 use Rattle.asking.proofs.ask_level.Goals as goal
 
 -- how many variables the part of the play has that is handed on

@@ -22,33 +22,14 @@ invariant_of-circuit c =
       countable = omega (arith, length-take-le (c.args.used - 0) c.args.gates.now (omega (arith, c.requires.used)), c.requires.small);
     }
 
-pub work_out-requires : goal.work_out-requires
-work_out-requires c =
+pub work_out-requires-clause-unforced : goal.work_out-requires-clause-unforced
+work_out-requires-clause-unforced c =
     let n = c.args.first + c.args.used in
-    let k = c.nodes-nodes.result in
     let long = length-take-le (c.args.used - 0) c.args.gates.now (omega (arith, c.requires.used)) in
-    record {
-      unforced = front_zero Unknown n (k - 0) c.args.unforced.now c.requires.unforced (omega (arith, long)) ∙ ap (λ j. replicate j Unknown) (let e : n ≡ c.args.first + length (take (c.args.used - 0) c.args.gates.now) = omega (arith, long) in e);
-      room = omega (arith, long, length-take-le (k - 0) c.args.values.now (omega (arith, long, c.requires.values.long)));
-    }
+    front_zero Unknown n _ c.args.unforced.now c.requires.unforced (omega (arith, long)) ∙ ap (λ j. replicate j Unknown) (let e : n ≡ c.args.first + length (take (c.args.used - 0) c.args.gates.now) = omega (arith, long) in e)
 
-pub settle-settled-requires : goal.settle-settled-requires
-settle-settled-requires c =
-    let n = c.args.first + c.args.used in
-    let k = c.nodes-nodes.result in
-    let long = length-take-le (c.args.used - 0) c.args.gates.now (omega (arith, c.requires.used)) in
-    record {
-      used = c.requires.used;
-      small = c.requires.small;
-      ascending = c.requires.ascending;
-      blank = c.requires.blank;
-      core = c.requires.core;
-      values = omega (arith, long, c.work_out.auto.values, length-take-le (k - 0) c.args.values.now (omega (arith, long, c.requires.values.long)));
-      below = c.requires.below;
-      played = c.requires.played;
-      work = c.requires.copies.long;
-      clear = front_zero none n n c.args.copies.now c.requires.copies refl;
-    }
+pub settle-settled-requires-clause-clear : goal.settle-settled-requires-clause-clear
+settle-settled-requires-clause-clear c = front_zero none _ _ c.args.copies.now c.requires.copies refl
 
 pub returns : goal.returns
 returns c =
