@@ -1,5 +1,5 @@
 -- The front of a longer list, lent and put back. Assumes nothing.
-use Rattle.std.proofs.Common.{◌≡◌, ℕ, ◌+◌, ◌-◌, ◌≤◌, Bool, List, ◌++◌, length, take, drop, replicate, Some, None, Option, sym, refl, ap, ◌∙◌, arith}
+use Rattle.std.proofs.Common.{◌≡◌, ℕ, ◌+◌, Bool, List, ◌++◌, length, take, drop, replicate, Some, None, Option, sym, ap, ◌∙◌, arith}
 use Rattle.std.proofs.lemmas.List.{take-append-drop, take-replicate}
 use Rattle.search.specs.Answers.{Outcome, moves, loses, Answer}
 use Rattle.asking.specs.Asked.{Zero, marks_in, marks_over}

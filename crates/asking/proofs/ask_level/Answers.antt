@@ -7,7 +7,7 @@ use Rattle.circuit.specs.declared.Gate.{Gate}
 use Rattle.circuit.specs.Gates.{pair, pairs}
 use Rattle.search.specs.Queries.{Query, Sound}
 use Rattle.search.specs.Answers.{Answer, reply_of, range_after, marks_after}
-use Rattle.runs.specs.Turn.{cut_list, within}
+use Rattle.runs.specs.Turn.{cut_list}
 use Rattle.asking.specs.declared.Level.{Level}
 use Rattle.asking.specs.Asked.{asked_of, reply_at, Fit}
 use Rattle.asking.proofs.Fronts.{front_zero, zero_front, marks_front}

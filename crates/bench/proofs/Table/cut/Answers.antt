@@ -1,5 +1,5 @@
 use Rattle.std.proofs.Common.{◌≡◌, ◌-◌, ◌≤◌, ◌++◌, length, take, drop, replicate, sym, ap, ◌∙◌, subst, ap₂, arith}
-use Rattle.std.proofs.lemmas.List.{with_items_is, drop_at, length-take-le, length-take, length-drop, length-append, length-replicate}
+use Rattle.std.proofs.lemmas.List.{with_items_is, drop_at, length-take-le, length-drop, length-append, length-replicate}
 use Rattle.bench.proofs.Lent.{cleared}
 use Rattle.bench.proofs.Table.cut.Goals as goal
 

@@ -8,7 +8,7 @@ use Rattle.circuit.specs.Gates.{pair, pairs}
 use Rattle.search.specs.Queries.{Query}
 use Rattle.search.specs.Answers.{Answer}
 use Rattle.asking.specs.declared.Level.{Level}
-use Rattle.asking.specs.Asked.{asked_of, reply_for, play_for, marks_over, Fit}
+use Rattle.asking.specs.Asked.{reply_for, play_for, marks_over, Fit}
 use Rattle.runs.specs.Calls.{RightReply}
 use Rattle.bench.specs.declared.GateTable.{GateTable}
 use Rattle.bench.specs.declared.Lists.{Lists}
