@@ -5,8 +5,18 @@ ghost use Rattle.runs.specs.Papers.{stub_of, ticket_present, slip_present};
 ghost use Rattle.runs.specs.Turn.{paid as paid_desk};
 ghost use Rattle.runs.specs.Settle.{back_desk, over_desk};
 
+use super::Bench;
 use circuit::Literal;
 use runs::{Desk, Phase, Stub};
+
+impl<S> Bench<S> {
+    // The numbers of the run.
+    pub fn desk(&self) -> Desk
+        ensures { result ≡ self.now.desk }
+    {
+        self.desk
+    }
+}
 
 // What the present paper carries.
 pub(super) fn stub(desk: &Desk) -> Stub

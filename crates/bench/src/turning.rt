@@ -39,13 +39,6 @@ fn fits_shape(frame: &Frame, desk: &Desk, gates: &GateTable, lists: &Lists) -> b
 }
 
 impl<S> Bench<S> {
-    // The numbers of the run.
-    pub fn desk(&self) -> Desk
-        ensures { result ≡ self.now.desk }
-    {
-        self.desk
-    }
-
     // Whether the tables are the bench's own, in the shape in which it left them.
     pub(super) fn owns(&self, gates: &GateTable, lists: &Lists) -> bool
         ensures { result ≡ own (model self.now gates.now lists.now) }
