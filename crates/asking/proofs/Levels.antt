@@ -18,13 +18,6 @@ use Rattle.runs.specs.Calls.{RightReply}
 use Rattle.search.specs.declared.Reply.TheVariants.{Spent}
 use Rattle.asking.specs.Asked.{reply_for, play_by, play_for}
 
--- the cut from computed values and marks
-pub cut_is : (first : ℕ) (gs : List Pair) (root : ℕ) (play vs : List Value) (ms : List Bool) (n : ℕ) → vs ≡ values_under first gs play → ms ≡ reach first gs (reads vs) (root / 2) → n ≡ first + length gs
-    → map (where_marked ms (reads vs)) (range_with_len 0 n) ≡ cut_list first gs root play
-cut_is first gs root play vs ms n v m k =
-    ap (λ j. map (where_marked ms (reads vs)) (range_with_len 0 j)) k ∙ ap (λ xs. map (where_marked xs (reads vs)) (range_with_len 0 (first + length gs))) m
-    ∙ ap (λ us. map (cut first gs (reads us) (root / 2)) (range_with_len 0 (first + length gs))) v
-
 module _ (variables : ℕ) (gs : List Pair) (root : ℕ) (play : List Value) (below free : ℕ) where
   abbrev first : ℕ
   first = 1 + variables

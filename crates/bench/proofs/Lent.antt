@@ -14,8 +14,3 @@ cleared x xs ys from used low high e f =
 pub clear_part : {X : Type 0} (x : X) (xs ys : List X) (set below free n : ℕ) → drop set xs ≡ replicate (n - set) x → ys ≡ xs → set ≡ below → below + free ≤ n → take free (drop below ys) ≡ replicate free x
 clear_part x xs ys set below free n e s at fits =
     ap (λ zs. take free (drop below zs)) s ∙ ap (λ k. take free (drop k xs)) (sym at) ∙ ap (take free) e ∙ take-replicate free (n - set) x (omega arith)
-
--- a list that is clear from its beginning
-pub clear_all : {X : Type 0} (x : X) (xs ys : List X) (shown n : ℕ) → drop shown xs ≡ replicate (n - shown) x → ys ≡ xs → shown ≡ 0 → length ys ≡ n → ys ≡ replicate (length ys) x
-clear_all x xs ys shown n e s at l =
-    s ∙ ap (λ k. drop k xs) (sym at) ∙ e ∙ ap (λ k. replicate k x) (let f : n - shown ≡ length ys = omega arith in f)

@@ -11,7 +11,6 @@ use super::desks::{is_present, paid, stub};
 use super::tables::are_bound;
 use super::{Bench, GateTable, Lists, Slip, Ticket, Turned};
 use asking::{Level, ask_level, before, width};
-use question::Frame;
 use runs::{Desk, Phase, Refusal, Refused};
 use search::{Reply, Searcher};
 
@@ -25,42 +24,43 @@ fn shown(phase: Phase, nodes: usize) -> usize
     }
 }
 
-// Whether the bench is at a level, and the tables have the counts in use with which it left them.
-fn fits_shape(frame: &Frame, desk: &Desk, gates: &GateTable, lists: &Lists) -> bool
-    requires { desk.now.gates ≤ 8000 }
-    ensures { result ≡ in_shape (blocks_of frame.now.prefix) desk.now (gate_sheet gates.now) (sheets_of lists.now) }
-{
-    let first = 1 + frame.variables();
-    desk.depth <= frame.blocks().len()
-        && gates.first == first
-        && gates.table.used == desk.gates
-        && lists.play.used == before(frame.blocks(), desk.depth)
-        && lists.marks.used == shown(desk.phase, first + desk.gates)
-}
-
 impl<S> Bench<S> {
+    // Whether the bench is at a level, and the tables have the counts in use with which it left them.
+    fn fits_shape(&self, gates: &GateTable, lists: &Lists) -> bool
+        ensures { result ≡ in_shape (blocks_of self.now.frame.prefix) self.now.desk (gate_sheet gates.now) (sheets_of lists.now) }
+    {
+        let desk = &self.desk;
+        let first = 1 + self.frame.variables();
+        desk.depth <= self.frame.blocks().len()
+            && gates.first == first
+            && gates.table.used == desk.gates
+            && lists.play.used == before(self.frame.blocks(), desk.depth)
+            && lists.marks.used == shown(desk.phase, first + desk.gates)
+    }
+
     // Whether the tables are the bench's own, in the shape in which it left them.
     pub(super) fn owns(&self, gates: &GateTable, lists: &Lists) -> bool
         ensures { result ≡ own (model self.now gates.now lists.now) }
     {
         are_bound(gates, lists, self.desk.stamp)
-            && fits_shape(&self.frame, &self.desk, gates, lists)
+            && self.fits_shape(gates, lists)
             && lists.are_roomy(self.frame.variables(), gates.table.entries.len())
     }
-}
 
-// What a bench asks at its level.
-fn level(frame: &Frame, desk: &Desk) -> Level
-    requires { desk.now.depth ≤ length (blocks_of frame.now.prefix) }
-    ensures { result ≡ level_of frame.now desk.now }
-{
-    let blocks = frame.blocks();
-    Level {
-        variables: frame.variables(),
-        root: desk.roots[desk.depth + 1],
-        below: before(blocks, desk.depth),
-        free: width(blocks, desk.depth),
-        allowance: desk.purse,
+    // What it asks at its level.
+    fn level(&self) -> Level
+        requires { self.now.desk.depth ≤ length (blocks_of self.now.frame.prefix) }
+        ensures { result ≡ level_of self.now.frame self.now.desk }
+    {
+        let desk = &self.desk;
+        let blocks = self.frame.blocks();
+        Level {
+            variables: self.frame.variables(),
+            root: desk.roots[desk.depth + 1],
+            below: before(blocks, desk.depth),
+            free: width(blocks, desk.depth),
+            allowance: desk.purse,
+        }
     }
 }
 
@@ -132,7 +132,7 @@ impl<S: Searcher> Bench<S> {
             });
         }
         let desk = self.desk;
-        let level = level(&self.frame, &desk);
+        let level = self.level();
         match ask_tables(&mut self.searcher, level, gates, lists) {
             Reply::Spent => Err(Refused {
                 refusal: Refusal::Spent,

@@ -25,7 +25,7 @@ pub struct Desk {
     pub depth: usize,
     // how many gates are in use
     pub gates: usize,
-    // the root of each level; entry 0 is of no level
+    // the root of each level; entry 0 is of no level. An array, since a desk is copied and asks for no memory.
     pub roots: [Literal; 18],
     // accepted turns
     pub turns: u64,
