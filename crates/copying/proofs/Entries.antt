@@ -1,13 +1,17 @@
 -- Entries of a gate table, written after one another, and set to zero again.
-use Rattle.std.proofs.Common.{◌≡◌, ℕ, ◌+◌, ◌-◌, ◌<◌, ◌≤◌, List, [], ◌∷◌, ◌++◌, length, get_or, take, drop, set, replicate, sym, refl, ap, ◌∙◌, ap₂, add-zero, arith}
+use Rattle.std.proofs.Common.{◌≡◌, ℕ, zero, suc, map, ◌+◌, ◌-◌, ◌<◌, ◌≤◌, List, [], ◌∷◌, ◌++◌, length, get_or, take, drop, set, replicate, sym, refl, ap, ◌∙◌, ap₂, add-zero, arith}
 use lib.Seq.{paste}
-use Rattle.std.proofs.lemmas.List.{get_or_append_left, get_or-take, append_assoc, take-append-drop, take-replicate, drop-drop, take_at, take_all, length-append, length-replicate, length-take-le}
+use Rattle.std.proofs.lemmas.List.{get_or_append_left, get_or-take, append_assoc, map-append, take-map, drop-map, take-append-drop, take-replicate, drop-drop, take_at, take_all, length-append, length-replicate, length-take-le}
 use Rattle.std.proofs.lemmas.List.Edits.{paste_none, paste_more, paste-paste, drop-paste, length-paste}
 use Rattle.circuit.proofs.Records.{length_pairs}
-use Rattle.circuit.specs.Gates.{pairs}
+use Rattle.std.proofs.lemmas.Slice.{put_mid-paste}
+use borrow.Rule.Slice.PartMut.{put_mid}
+use Rattle.circuit.specs.declared.Gate.{Gate}
+use Rattle.circuit.specs.Gates.{empty, pair, pairs}
 use Rattle.valuation.specs.Circuit.{Pair, blank}
-use Rattle.copying.specs.declared.making.Making.{Making}
-use Rattle.copying.specs.Table.{written, BlankFrom, Grown, Stopped}
+use Rattle.copying.specs.declared.guard.Making.{Making}
+use Rattle.copying.specs.Table.{written, BlankFrom}
+use Rattle.copying.specs.Guard.{Grown, Stopped}
 
 module _ (table : List Pair) (from : ℕ) where
   pub written_none : table ≡ written table from []
@@ -54,6 +58,22 @@ module _ (table : List Pair) (from : ℕ) where
       let r : take (length (replicate n blank)) (replicate n blank) ≡ replicate n blank = take_all (length (replicate n blank)) (replicate n blank) (omega arith) in
       let c = cut n (omega arith) b in
       cc
+
+map_paste : {X Y : Type 0} (f : X → Y) (d : List X) (at : ℕ) (s : List X) (n : ℕ) → map f (paste d at s n) ≡ paste (map f d) at (map f s) n
+map_paste f d at s n =
+    map-append f (take at d ++ take n s) (drop (at + n) d)
+    ∙ ap₂ (λ xs ys. xs ++ ys) (map-append f (take at d) (take n s) ∙ ap₂ (λ xs ys. xs ++ ys) (sym (take-map f at d)) (sym (take-map f n s))) (sym (drop-map f (at + n) d))
+
+pairs_empty : (n : ℕ) → pairs (replicate n empty) ≡ replicate n blank
+pairs_empty zero = refl
+pairs_empty (suc n) = ap (λ gs. blank ∷ gs) (pairs_empty n)
+
+-- n gates of a table, set to the gate of a free entry
+pub pairs_freed : (gs : List Gate) (from k n : ℕ) (ys : List Gate) → n ≡ k → ys ≡ replicate n empty → pairs (put_mid from k gs ys) ≡ written (pairs gs) from (replicate n blank)
+pairs_freed gs from k n ys e is =
+    ap pairs (put_mid-paste from k gs ys (replicate n empty) n is e (sym (length-replicate n empty)))
+    ∙ map_paste pair gs from (replicate n empty) n
+    ∙ ap₂ (paste (pairs gs) from) (pairs_empty n) (sym (length-replicate n blank))
 
 -- guards, one after the other
 module _ (m : Making) where

@@ -2,6 +2,7 @@
 use Rattle.std.proofs.Common.{◌≡◌, ℕ, ◌+◌, ◌-◌, ◌*◌, ◌/◌, ◌<◌, ◌≤◌, List, [], ◌∷◌, ◌++◌, length, Some, None, Option, sym, refl, ap, ◌∙◌, subst, arith}
 use Rattle.std.proofs.lemmas.List.FromFn.{get_or-map-range_with_len}
 use Rattle.std.proofs.lemmas.List.{append-nil, length-append, length-take-le}
+use Rattle.std.specs.Option.{unwrap_or}
 use Rattle.circuit.specs.declared.Literal.{Literal}
 use Rattle.circuit.specs.Gates.{pairs}
 use Rattle.circuit.proofs.Records.{length_pairs}
@@ -11,11 +12,11 @@ use Rattle.copies.specs.Make.{fresh, core_copy, Join}
 use Rattle.copies.proofs.Counted.{join_counts}
 use Rattle.copies.proofs.Making.{opposite_half}
 use Rattle.copies.proofs.Passes.{join_next, join_push}
-use Rattle.copying.specs.declared.making.Making.{Making}
+use Rattle.copying.specs.declared.guard.Making.{Making}
 use Rattle.copying.specs.declared.places.Copies.{Copies}
 use Rattle.copying.specs.Gates.{olds, codes, join_gates, join_code, OneJoined, all_joined, CoreJoined, CoreStopped}
 use Rattle.copying.specs.Places.{copy_code}
-use Rattle.copying.specs.Table.{Grown, Stopped}
+use Rattle.copying.specs.Guard.{Grown, Stopped}
 use Rattle.copying.proofs.Entries.{grown_none, grown_more, stopped_after}
 
 -- what is joined of some literals, if there are any
@@ -95,9 +96,12 @@ module _ (m m' : Making) (cs : List Copies) (core : List ℕ) (e : Option Litera
       stopped_after m₀ m' m'' j.gates (length (join_gates e c)) (length (all_joined m₀ cs all hs).gates) A.0 T
       (omega (arith, join_counts m₀.first (olds m₀) (codes cs) core hs, join_counts m₀.first (olds m₀) (codes cs) all hs, few c core j.literal, ap (λ o. length (join_gates o c)) A.1))
 
-  some_is : (ls : List ℕ) (l : Literal) (n : ℕ) → Some l ≡ if_any ls n → l.code ≡ n
-  some_is [] l n p = absurd (let z : ◌≡◌ {A = ℕ} 0 1 = cc in omega arith)
-  some_is (k ∷ ls) l n p = let q : l ≡ record { code = n } = cc in ap (λ x. x.code) q
+  or_code : (ls : List ℕ) (d : Literal) (n : ℕ) → (ls ≡ [] → d.code ≡ n) → (unwrap_or (if_any ls n) d).code ≡ n
+  or_code [] d n h = h refl
+  or_code (k ∷ ls) d n h = refl
 
-  pub joined_some : (l : Literal) → e ≡ Some l → CoreJoined m m' cs core l
-  joined_some l p m₀ hs z G = let A = S.joins m₀ hs z G in (A.0, some_is core l (all_joined m₀ cs core hs).literal (sym p ∙ A.1))
+  pub joined_or : (d l : Literal) → d.code ≡ 1 → l ≡ unwrap_or e d → CoreJoined m m' cs core l
+  joined_or d l one p m₀ hs z G =
+      let A = S.joins m₀ hs z G in
+      let none : core ≡ [] → d.code ≡ (all_joined m₀ cs core hs).literal = λ q. one ∙ sym (ap (λ ls. (all_joined m₀ cs ls hs).literal) q) in
+      (A.0, ap (λ x. x.code) p ∙ ap (λ o. (unwrap_or o d).code) A.1 ∙ or_code core d (all_joined m₀ cs core hs).literal none)

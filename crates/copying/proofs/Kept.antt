@@ -6,7 +6,7 @@ use Rattle.std.proofs.lemmas.Bool.{cond-true, leb-true}
 use Rattle.valuation.specs.Circuit.{Pair, Ascending, blank, reads}
 use Rattle.copies.proofs.Core.{core_marked}
 use Rattle.copies.proofs.Making.{settlement_made}
-use Rattle.copying.specs.declared.Lost.{Lost}
+use Rattle.copying.specs.declared.lost.Lost.{Lost}
 use Rattle.copying.specs.Claims.{TableKept}
 use Rattle.copying.specs.Settle.{core_in, parts, new_gates, fits, table_after}
 use Rattle.copying.specs.Table.{written, BlankFrom}

@@ -12,9 +12,9 @@ use Rattle.copies.specs.Copy.{Part, like, copied}
 use Rattle.copies.specs.Make.{Made, input_copy, with_copy, with_gate, fresh, gate_at, gate_copy, unless_same, make_one, make}
 use Rattle.copying.specs.declared.places.Copies.{Copies}
 use Rattle.copies.proofs.Making.{like_half}
-use Rattle.copying.specs.declared.making.Making.{Making}
+use Rattle.copying.specs.declared.guard.Making.{Making}
 use Rattle.copying.specs.Gates.{gate_in, copy_at, stands, gates_for, GateCopied, olds, codes}
-use Rattle.copying.specs.Table.{Grown, Stopped}
+use Rattle.copying.specs.Guard.{Grown, Stopped}
 use Rattle.copying.proofs.Entries.{get_or_written, grown_more, stopped_after}
 use Rattle.copying.specs.Places.{held, put, code_of, copy_code, shown}
 use Rattle.copying.proofs.Held.{held_same, held_other, shown_at}

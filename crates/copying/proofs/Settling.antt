@@ -3,7 +3,7 @@ use Rattle.std.proofs.Common.{◌≡◌, ℕ, ◌+◌, ◌*◌, ◌≤◌, Bool,
 use Rattle.std.proofs.lemmas.Bool.{le-leb, lt-leb, cond-true, cond-false}
 use Rattle.circuit.specs.declared.Gate.{Gate}
 use Rattle.circuit.specs.Gates.{pairs}
-use Rattle.circuit.proofs.Records.{length_pairs}
+use Rattle.circuit.proofs.Records.{length_pairs, pairs_take}
 use Rattle.std.proofs.lemmas.List.{length_push, length-replicate, length-take-le}
 use Rattle.circuit.specs.declared.Literal.{Literal}
 use Rattle.valuation.specs.Circuit.{Pair, blank}
@@ -12,14 +12,15 @@ use Rattle.copies.specs.Copy.{opposite}
 use Rattle.copies.specs.Make.{fresh, needs, needed, make, Join, join, joined}
 use Rattle.copies.proofs.Counted.{join_counts}
 use Rattle.copying.specs.declared.Full.{Full}
-use Rattle.copying.specs.declared.Lost.{Lost}
+use Rattle.copying.specs.declared.lost.Lost.{Lost}
 use Rattle.copying.specs.declared.Settled.{Settled}
-use Rattle.copying.specs.declared.making.Making.{Making}
+use Rattle.copying.specs.declared.guard.Making.{Making}
 use Rattle.copying.specs.declared.places.Copies.{Copies}
 use Rattle.copying.specs.Gates.{olds, all_made, AllCopied, all_joined, CoreJoined, CoreStopped}
 use Rattle.copying.specs.Settle.{core_in, parts, new_gates, fits, answer, table_after, joins_of, gates_of, AllMade}
 use Rattle.copying.specs.Places.{none, shown}
-use Rattle.copying.specs.Table.{written, BlankFrom, Grown, Stopped}
+use Rattle.copying.specs.Table.{written, BlankFrom}
+use Rattle.copying.specs.Guard.{Grown, Stopped}
 use Rattle.copying.proofs.Entries.{grown_more, grown_length, stopped_after, stopped_sooner, restored}
 use Rattle.copying.proofs.Held.{none_shown}
 use Rattle.copying.proofs.Joining.{next_literal}
@@ -138,11 +139,13 @@ module _ (m m' : Making) (t : Lost) (cs : List Copies) (first used : ℕ) (table
         ∙ sym (cond-false (fits table used news) _ _ none_fit)
 
 -- the places that the core needs, from an empty list
-pub needs_shown : (first used : ℕ) (gs : List Gate) (t : Lost) (cs cs₁ cs₂ : List Copies) (ns : List Pair) → ns ≡ take used (pairs gs) → length ns ≡ used → cs ≡ replicate (first + used) none →
-    shown cs₁ ≡ marked (map opposite (core_in t (length cs))) (shown cs) → shown cs₂ ≡ sweep (needs first ns) (2 * length cs₁) (shown cs₁) → length cs₁ ≡ length cs →
+pub needs_shown : (first used : ℕ) (gs : List Gate) (t : Lost) (cs cs₁ cs₂ : List Copies) → used ≤ length gs → cs ≡ replicate (first + used) none →
+    shown cs₁ ≡ marked (map opposite (core_in t (length cs))) (shown cs) → shown cs₂ ≡ sweep (needs first (pairs (take used gs))) (2 * length cs₁) (shown cs₁) → length cs₁ ≡ length cs →
     shown cs₂ ≡ needed first (take used (pairs gs)) (core_in t (first + length (take used (pairs gs))))
-needs_shown first used gs t cs cs₁ cs₂ ns e u empty a b l =
+needs_shown first used gs t cs cs₁ cs₂ room empty a b l =
+    let olds = take used (pairs gs) in
+    let u : length olds ≡ used = length-take-le used (pairs gs) (omega (arith, length_pairs gs)) in
     let long : length cs ≡ first + used = ap length empty ∙ length-replicate (first + used) none in
-    let size : length cs ≡ first + length (take used (pairs gs)) = long ∙ ap (λ n. first + n) (sym u ∙ ap length e) in
-    b ∙ ap₂ (sweep (needs first ns)) (ap (λ n. 2 * n) (l ∙ size)) (a ∙ ap₂ (λ n ms. marked (map opposite (core_in t n)) ms) size (none_shown cs (first + used) empty ∙ ap (λ n. replicate (2 * n) false) (sym long ∙ size)))
-    ∙ ap (λ hs. sweep (needs first hs) (2 * (first + length (take used (pairs gs)))) (marked (map opposite (core_in t (first + length (take used (pairs gs))))) (replicate (2 * (first + length (take used (pairs gs)))) false))) e
+    let size : length cs ≡ first + length olds = omega arith in
+    b ∙ ap₂ (sweep (needs first (pairs (take used gs)))) (ap (λ n. 2 * n) (l ∙ size)) (a ∙ ap₂ (λ n ms. marked (map opposite (core_in t n)) ms) size (none_shown cs (first + used) empty ∙ ap (λ n. replicate (2 * n) false) (sym long ∙ size)))
+    ∙ ap (λ hs. sweep (needs first hs) (2 * (first + length olds)) (marked (map opposite (core_in t (first + length olds))) (replicate (2 * (first + length olds)) false))) (pairs_take used gs)

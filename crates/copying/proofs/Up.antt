@@ -8,11 +8,11 @@ use Rattle.circuit.proofs.Records.{pair_at}
 use Rattle.valuation.specs.Circuit.{Pair, gate}
 use Rattle.copies.specs.Copy.{like}
 use Rattle.copies.proofs.Making.{like_half}
-use Rattle.copying.specs.declared.making.Making.{Making}
+use Rattle.copying.specs.declared.guard.Making.{Making}
 use Rattle.copying.specs.declared.places.Copies.{Copies}
 use Rattle.copying.specs.Gates.{gate_in, copy_at, stands, gates_for, GateCopied}
 use Rattle.copying.specs.Places.{copy_code}
-use Rattle.copying.specs.Table.{Grown, Stopped}
+use Rattle.copying.specs.Guard.{Grown, Stopped}
 use Rattle.copying.proofs.Entries.{grown_none}
 
 -- the place of a literal is one of its node

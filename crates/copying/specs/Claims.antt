@@ -1,7 +1,7 @@
 -- What a table keeps over a settlement that fits.
 use Rattle.std.specs.Prelude.{◌≡◌, ℕ, ◌+◌, ◌/◌, ◌<◌, ◌≤◌, true, List, ◌++◌, length, take}
 use Rattle.valuation.specs.Circuit.{Pair, Ascending}
-use Rattle.copying.specs.declared.Lost.{Lost}
+use Rattle.copying.specs.declared.lost.Lost.{Lost}
 use Rattle.copying.specs.Settle.{new_gates, fits, table_after}
 use Rattle.copying.specs.Table.{BlankFrom}
 

@@ -9,8 +9,8 @@ use Rattle.copies.specs.Copy.{Part, like, copied}
 use Rattle.copies.specs.Make.{part_by, gate_at, Made, make, Join, join}
 use Rattle.copying.specs.declared.places.Copies.{Copies}
 use Rattle.copying.specs.declared.Bounds.{Bounds}
-use Rattle.copying.specs.declared.making.Making.{Making}
-use Rattle.copying.specs.Table.{Grown, Stopped}
+use Rattle.copying.specs.declared.guard.Making.{Making}
+use Rattle.copying.specs.Guard.{Grown, Stopped}
 use Rattle.copying.specs.Places.{copy_code, shown}
 
 -- what becomes of each input

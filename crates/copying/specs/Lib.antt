@@ -1,5 +1,6 @@
 pub mod Places
 pub mod Table
+pub mod Guard
 pub mod Gates
 pub mod Settle
 pub mod Claims

@@ -4,13 +4,14 @@ use Rattle.valuation.specs.Circuit.{Pair, reads}
 use Rattle.copies.specs.Copy.{Part, opposite}
 use Rattle.copies.specs.Make.{core_of, fresh, Join, join, settle_gates, settle_root}
 use Rattle.circuit.specs.declared.Literal.{Literal}
-use Rattle.copying.specs.declared.making.Making.{Making}
+use Rattle.copying.specs.declared.guard.Making.{Making}
 use Rattle.copying.specs.declared.places.Copies.{Copies}
 use Rattle.copying.specs.declared.Full.{Full}
-use Rattle.copying.specs.declared.Lost.{Lost}
+use Rattle.copying.specs.declared.lost.Lost.{Lost}
 use Rattle.copying.specs.declared.Settled.{Settled}
 use Rattle.copying.specs.Gates.{part_in, olds, all_made}
-use Rattle.copying.specs.Table.{written, Grown}
+use Rattle.copying.specs.Table.{written}
+use Rattle.copying.specs.Guard.{Grown}
 
 -- the core of a lost turn, in a circuit of that many nodes
 abbrev pub core_in : Lost → ℕ → List ℕ

@@ -12,13 +12,18 @@ ghost use Rattle.copying.specs.Settle.{answer, table_after};
 ghost use Rattle.copying.specs.Table.{BlankFrom};
 ghost use Rattle.valuation.specs.Circuit.{Ascending};
 
-use circuit::{Gate, Literal};
-use making::write_gates;
-use places::Copies;
+use circuit::{Circuit, Gate, Literal};
+use guard::Making;
+use making::make_gates;
+use places::{Copies, need_core, need_inputs};
 use valuation::Value;
 
+mod guard;
+mod lost;
 mod making;
 pub mod places;
+
+pub use lost::Lost;
 
 // Where the block below the lost level begins, where the level's own begins, and where that ends, by nodes.
 #[derive(Clone, Copy)]
@@ -28,35 +33,16 @@ pub struct Bounds {
     pub end: usize,
 }
 
-// A lost turn: the marks of its core, the values under the lower levels' play, the play, the bounds of the blocks, and the root to be replaced.
-#[derive(Clone, Copy)]
-pub struct Lost<'a> {
-    pub core: &'a [bool],
-    pub values: &'a [Value],
-    pub play: &'a [Value],
-    pub bounds: Bounds,
-    pub root: Literal,
-}
-
 // The new root, and how many gates were made.
-#[derive(Clone, Copy)]
+#[derive(Clone, Copy, PartialEq, Eq, Debug)]
 pub struct Settled {
     pub root: Literal,
     pub made: usize,
 }
 
 // The gates exceed the free entries.
-#[derive(Clone, Copy)]
+#[derive(Clone, Copy, PartialEq, Eq, Debug)]
 pub struct Full;
-
-// Takes all copies out of their list.
-fn clear(copies: &mut [Copies])
-    ensures { copies.new ≡ replicate (length copies.old) none }
-{
-    for entry in copies.iter_mut() {
-        *entry = Copies::NONE;
-    }
-}
 
 // Settles a lost turn: its gates stand after the `used` ones, or the table is as it was if they do not fit. `first` is the first gate's node.
 pub fn settle(
@@ -72,18 +58,31 @@ pub fn settle(
     requires blank { BlankFrom (pairs gates.old) used }
     requires core { first + used ≤ length lost.core.now }
     requires values { first + used ≤ length lost.values.now }
-    requires below { 1 ≤ lost.bounds.below }
-    requires played { lost.bounds.mine ≤ length lost.play.now + 1 }
     requires work { first + used ≤ length copies.old }
     requires clear { take (first + used) copies.old ≡ replicate (first + used) none }
     ensures answer { result ≡ answer first (pairs gates.old) used lost.entry }
     ensures table { pairs gates.new ≡ table_after first (pairs gates.old) used lost.entry }
     ensures work { copies.new ≡ copies.old }
 {
-    let nodes = first + used;
-    let outcome = write_gates(gates, used, first, lost, &mut copies[0..nodes]);
-    clear(&mut copies[0..nodes]);
-    outcome
+    let copies = &mut copies[..first + used];
+    need_core(lost.core, lost.values, copies);
+    let circuit = Circuit {
+        first,
+        gates: &gates[..used],
+    };
+    need_inputs(circuit, copies);
+    let mut making = Making {
+        gates,
+        first,
+        used,
+        made: 0,
+    };
+    let root = make_gates(&mut making, lost, copies);
+    copies.fill(Copies::NONE);
+    Ok(Settled {
+        root: root?,
+        made: making.commit(),
+    })
 }
 
 pub fn table_kept()

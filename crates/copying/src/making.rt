@@ -6,55 +6,22 @@ ghost use Rattle.copies.specs.Make.{input_copy, core_of};
 ghost use Rattle.copying.specs.Gates.{part_in, gate_in, gates_for, GateCopied, olds, all_made, AllCopied, join_gates, OneJoined, CoreJoined, CoreStopped};
 ghost use Rattle.copying.specs.Places.{none};
 ghost use Rattle.copying.specs.Settle.{answer, table_after, gates_of, AllMade};
-ghost use Rattle.copying.specs.Table.{written, BlankFrom, Grown, Stopped};
+ghost use Rattle.copying.specs.Table.{written, BlankFrom};
+ghost use Rattle.copying.specs.Guard.{Grown, Stopped};
 ghost use Rattle.valuation.specs.Circuit.{blank, Ascending, reads};
 
+use super::guard::Making;
 use super::places::{
     Copies, copy_of, core_literal, flipped, flipped_by, need_core, need_inputs, place_at, plain,
     put_copy,
 };
-use super::{Bounds, Full, Lost, Settled};
-use circuit::{Gate, Literal};
+use super::{Full, Lost, Settled};
+use circuit::{Circuit, Gate, Literal};
 use valuation::Value;
-
-// A guard over the entries being made: `made` of them, after the `used` ones. They are set to zero again unless they are committed.
-struct Making<'a> {
-    gates: &'a mut [Gate],
-    first: usize,
-    used: usize,
-    made: usize,
-}
-
-// Sets `count` entries to zero, from `from` on.
-fn wipe(gates: &mut [Gate], from: usize, count: usize)
-    requires { from + count ≤ length gates.old }
-    ensures { pairs gates.new ≡ written (pairs gates.old) from (replicate count blank) }
-{
-    let zero = Literal::new(0);
-    for k in 0..count {
-        gates[from + k] = Gate::new(zero, zero);
-    }
-}
-
-impl Drop for Making<'_> {
-    fn drop(self)
-        requires { self.used + self.made ≤ length self.gates.now }
-        ensures { pairs self.exit.0.now ≡ written (pairs self.entry.gates.now) self.entry.used (replicate self.entry.made blank) }
-    {
-        let Making {
-            gates,
-            first: _,
-            used,
-            made,
-        } = self;
-        wipe(gates, used, made);
-    }
-}
 
 impl Making<'_> {
     // Whether no entry is free.
     fn is_full(&self) -> bool
-        requires { self.now.used + self.now.made ≤ length self.now.gates.now }
         ensures { result ≡ nat_le (length self.now.gates.now) (self.now.used + self.now.made) }
     {
         self.used + self.made >= self.gates.len()
@@ -62,8 +29,6 @@ impl Making<'_> {
 
     // Makes a gate and gives its literal. No other function makes gates.
     fn add(&mut self, gate: Gate) -> Result<Literal, Full>
-        requires small { self.old.first + length self.old.gates.now ≤ 32768 }
-        requires room { self.old.used + self.old.made ≤ length self.old.gates.now }
         ensures { MatchResult result
             (λ l. Grown self.old self.new (pair gate ∷ []) × (l.code ≡ 2 * (self.old.first + self.old.used + self.old.made)))
             (λ _. Stopped self.old self.new 1) }
@@ -76,37 +41,18 @@ impl Making<'_> {
         self.made += 1;
         Ok(Literal::new((2 * (self.first + at)) as u16))
     }
-
-    // Keeps the gates made, and gives their number.
-    fn commit(self) -> usize
-        ensures made { result ≡ self.entry.made }
-        ensures gates { self.exit.0.now ≡ self.entry.gates.now }
-    {
-        let Making {
-            gates: _,
-            first: _,
-            used: _,
-            made,
-        } = self;
-        made
-    }
 }
 
 // The copy of an input at a place: a variable of the lost level is 1 in positive polarity and 0 in negative, one of the level below its play.
-fn input_copy(place: Literal, bounds: Bounds, play: &[Value]) -> Literal
-    requires start { 1 ≤ bounds.below }
-    requires played { bounds.mine ≤ length play.now + 1 }
-    ensures { result.code ≡ input_copy (part_in bounds play.now (place.code / 2)) place.code }
+fn input_copy(lost: Lost, place: Literal) -> Literal
+    ensures { result.code ≡ input_copy (part_in lost.entry.bounds lost.entry.play.now (place.code / 2)) place.code }
 {
     let node = place.node();
-    let value = if node >= bounds.mine && node < bounds.end {
-        if place.is_negated() {
-            Value::False
-        } else {
-            Value::True
-        }
-    } else if node >= bounds.below && node < bounds.mine {
-        play[node - 1]
+    let bounds = lost.bounds;
+    let value = if (bounds.mine..bounds.end).contains(&node) {
+        Value::from(!place.is_negated())
+    } else if (bounds.below..bounds.mine).contains(&node) {
+        lost.play[node - 1]
     } else {
         Value::Unknown
     };
@@ -119,8 +65,6 @@ fn input_copy(place: Literal, bounds: Bounds, play: &[Value]) -> Literal
 
 // The copy of a gate at a place: the and of its inputs' copies, or the gate itself if these are its own literals.
 fn copy_gate(making: &mut Making, copies: &[Copies], place: Literal) -> Result<Literal, Full>
-    requires small { making.old.first + length making.old.gates.now ≤ 32768 }
-    requires room { making.old.used + making.old.made ≤ length making.old.gates.now }
     requires deep { making.old.first ≤ place.code / 2 }
     requires within { place.code / 2 < making.old.first + making.old.used }
     requires left { (gate_in making.old place.code).left / 2 < length copies.now }
@@ -142,28 +86,20 @@ fn copy_gate(making: &mut Making, copies: &[Copies], place: Literal) -> Result<L
 }
 
 // Makes the copies that are needed, by nodes, positive before negative.
-fn make_copies(
-    making: &mut Making,
-    bounds: Bounds,
-    play: &[Value],
-    copies: &mut [Copies],
-) -> Result<(), Full>
+fn make_copies(making: &mut Making, lost: Lost, copies: &mut [Copies]) -> Result<(), Full>
     requires start { making.old.made ≡ 0 }
-    requires small { making.old.first + length making.old.gates.now ≤ 32768 }
-    requires room { making.old.used ≤ length making.old.gates.now }
     requires ascending { Ascending making.old.first (olds making.old) }
     requires nodes { length copies.old ≡ making.old.first + making.old.used }
-    requires below { 1 ≤ bounds.below }
-    requires played { bounds.mine ≤ length play.now + 1 }
     ensures { MatchResult result
-        (λ _. AllCopied making.old making.new bounds play.now copies.old copies.new)
-        (λ _. Stopped making.old making.new (length (all_made making.old bounds play.now copies.old).gates)) }
+        (λ _. AllCopied making.old making.new lost.entry.bounds lost.entry.play.now copies.old copies.new)
+        (λ _. Stopped making.old making.new (length (all_made making.old lost.entry.bounds lost.entry.play.now copies.old).gates)) }
 {
+    // A number, since the pass reads lower places of the list that it writes.
     for number in 0..2 * copies.len() {
         let place = place_at(number);
         if copies[place.node()].at(place).is_some() {
             let copy = if place.node() < making.first {
-                input_copy(place, bounds, play)
+                input_copy(lost, place)
             } else {
                 copy_gate(making, copies, place)?
             };
@@ -175,8 +111,6 @@ fn make_copies(
 
 // Joins one more copy to those joined before, if there are any.
 fn join_copy(making: &mut Making, joined: Option<Literal>, copy: Literal) -> Result<Literal, Full>
-    requires small { making.old.first + length making.old.gates.now ≤ 32768 }
-    requires room { making.old.used + making.old.made ≤ length making.old.gates.now }
     ensures { MatchResult result
         (λ l. OneJoined making.old making.new joined copy l)
         (λ _. Stopped making.old making.new (length (join_gates joined copy))) }
@@ -194,8 +128,6 @@ fn join_core(
     values: &[Value],
     copies: &[Copies],
 ) -> Result<Literal, Full>
-    requires small { making.old.first + length making.old.gates.now ≤ 32768 }
-    requires room { making.old.used + making.old.made ≤ length making.old.gates.now }
     requires core { length copies.now ≤ length core.now }
     requires values { length copies.now ≤ length values.now }
     requires nodes { length copies.now ≤ 32768 }
@@ -204,16 +136,13 @@ fn join_core(
         (λ _. CoreStopped making.old making.new copies.now (core_of (λ n. slice_index_or core.now n false) (reads values.now) (length copies.now))) }
 {
     let mut joined = None;
-    for node in 0..copies.len() {
-        if let Some(literal) = core_literal(core, values, node) {
+    for (node, in_core) in core[..copies.len()].iter().enumerate() {
+        if let Some(literal) = core_literal(node, *in_core, values[node]) {
             let copy = copy_of(copies, literal, flipped(literal));
             joined = Some(join_copy(making, joined, copy)?);
         }
     }
-    match joined {
-        Some(literal) => Ok(literal),
-        None => Ok(Literal::new(1)),
-    }
+    Ok(joined.unwrap_or(Literal::new(1)))
 }
 
 // The gate of a new root: the old one and not the joined copies.
@@ -224,56 +153,21 @@ fn root_gate(root: Literal, joined: Literal) -> Gate
 }
 
 // Makes all gates of a settlement, where the list of copies shows what is needed, and gives the new root.
-fn make_gates(making: &mut Making, lost: Lost, copies: &mut [Copies]) -> Result<Literal, Full>
+pub(super) fn make_gates(
+    making: &mut Making,
+    lost: Lost,
+    copies: &mut [Copies],
+) -> Result<Literal, Full>
     requires start { making.old.made ≡ 0 }
-    requires small { making.old.first + length making.old.gates.now ≤ 32768 }
-    requires room { making.old.used ≤ length making.old.gates.now }
     requires ascending { Ascending making.old.first (olds making.old) }
     requires nodes { length copies.old ≡ making.old.first + making.old.used }
     requires core { length copies.old ≤ length lost.core.now }
     requires values { length copies.old ≤ length lost.values.now }
-    requires below { 1 ≤ lost.bounds.below }
-    requires played { lost.bounds.mine ≤ length lost.play.now + 1 }
     ensures { MatchResult result
         (λ l. AllMade making.old making.new lost.entry copies.old l)
         (λ _. Stopped making.old making.new (length (gates_of making.old lost.entry copies.old))) }
 {
-    make_copies(making, lost.bounds, lost.play, copies)?;
+    make_copies(making, lost, copies)?;
     let joined = join_core(making, lost.core, lost.values, copies)?;
     making.add(root_gate(lost.root, joined))
-}
-
-// Makes a settlement's gates after the `used` ones, or leaves the table as it was. The copies are left in their list.
-pub(super) fn write_gates(
-    gates: &mut [Gate],
-    used: usize,
-    first: usize,
-    lost: Lost,
-    copies: &mut [Copies],
-) -> Result<Settled, Full>
-    requires used { used ≤ length gates.old }
-    requires small { first + length gates.old ≤ 32768 }
-    requires ascending { Ascending first (take used (pairs gates.old)) }
-    requires blank { BlankFrom (pairs gates.old) used }
-    requires core { first + used ≤ length lost.core.now }
-    requires values { first + used ≤ length lost.values.now }
-    requires below { 1 ≤ lost.bounds.below }
-    requires played { lost.bounds.mine ≤ length lost.play.now + 1 }
-    requires clear { copies.old ≡ replicate (first + used) none }
-    ensures answer { result ≡ answer first (pairs gates.old) used lost.entry }
-    ensures table { pairs gates.new ≡ table_after first (pairs gates.old) used lost.entry }
-{
-    need_core(lost.core, lost.values, copies);
-    need_inputs(&gates[0..used], first, copies);
-    let mut making = Making {
-        gates,
-        first,
-        used,
-        made: 0,
-    };
-    let root = make_gates(&mut making, lost, copies)?;
-    Ok(Settled {
-        root,
-        made: making.commit(),
-    })
 }

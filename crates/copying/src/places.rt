@@ -4,10 +4,10 @@ ghost use Rattle.circuit.specs.Gates.{pairs};
 ghost use Rattle.copies.specs.Copy.{opposite, like};
 ghost use Rattle.copies.specs.Make.{literal_for, core_of, needed, needs};
 ghost use Rattle.copying.specs.Places.{none, held_in, put_in, put, listed, copy_code, shown};
-ghost use Rattle.valuation.specs.Circuit.{Ascending, reads};
+ghost use Rattle.valuation.specs.Circuit.{reads};
 ghost use Rattle.valuation.specs.Sweep.{marked, sweep};
 
-use circuit::{Gate, Literal};
+use circuit::{Circuit, Literal};
 use valuation::Value;
 
 // The copies of a node in positive and in negative polarity, where they are needed. Until its copy is made, a node stands for itself.
@@ -105,24 +105,19 @@ pub(super) fn copy_of(copies: &[Copies], literal: Literal, place: Literal) -> Li
     requires { place.code / 2 < length copies.now }
     ensures { result.code ≡ like literal.code (copy_code copies.now place.code) }
 {
-    let copy = match copies[place.node()].at(place) {
-        Some(copy) => copy,
-        None => Literal::new(0),
-    };
-    flipped_by(copy, literal)
+    let copy = copies[place.node()].at(place);
+    flipped_by(copy.unwrap_or(Literal::new(0)), literal)
 }
 
 // The literal of a node that its value makes true, if the node is of the core.
-pub(super) fn core_literal(core: &[bool], values: &[Value], node: usize) -> Option<Literal>
-    requires core { node < length core.now }
-    requires values { node < length values.now }
-    requires small { node < 32768 }
-    ensures { listed result ≡ (if slice_index_or core.now node false then literal_for (reads values.now node) node else []) }
+pub(super) fn core_literal(node: usize, in_core: bool, value: Value) -> Option<Literal>
+    requires { node < 32768 }
+    ensures { listed result ≡ (if in_core then literal_for value node else []) }
 {
-    if !core[node] {
+    if !in_core {
         return None;
     }
-    match values[node] {
+    match value {
         Value::Unknown => None,
         Value::False => Some(Literal::new((2 * node + 1) as u16)),
         Value::True => Some(Literal::new((2 * node) as u16)),
@@ -144,24 +139,24 @@ pub(super) fn need_core(core: &[bool], values: &[Value], copies: &mut [Copies])
     requires small { length copies.old ≤ 32768 }
     ensures { shown copies.new ≡ marked (map opposite (core_of (λ n. slice_index_or core.now n false) (reads values.now) (length copies.old))) (shown copies.old) }
 {
-    for node in 0..copies.len() {
-        if let Some(literal) = core_literal(core, values, node) {
+    for (node, in_core) in core[..copies.len()].iter().enumerate() {
+        if let Some(literal) = core_literal(node, *in_core, values[node]) {
             need(copies, flipped(literal));
         }
     }
 }
 
 // Needs whatever a needed gate needs: its literals, in its polarity. One pass, from the last place down.
-pub(super) fn need_inputs(gates: &[Gate], first: usize, copies: &mut [Copies])
-    requires ascending { Ascending first (pairs gates.now) }
-    requires nodes { length copies.old ≡ first + length gates.now }
+pub(super) fn need_inputs(circuit: Circuit<'_>, copies: &mut [Copies])
+    requires nodes { length copies.old ≡ circuit.first + length circuit.gates.now }
     requires small { length copies.old ≤ 32768 }
-    ensures { shown copies.new ≡ sweep (needs first (pairs gates.now)) (2 * length copies.old) (shown copies.old) }
+    ensures { shown copies.new ≡ sweep (needs circuit.entry.first (pairs circuit.entry.gates.now)) (2 * length copies.old) (shown copies.old) }
 {
-    for number in (2 * first..2 * copies.len()).rev() {
+    // A number, since the pass writes at lower places of the list that it reads.
+    for number in (2 * circuit.first..2 * copies.len()).rev() {
         let place = place_at(number);
         if copies[place.node()].at(place).is_some() {
-            let gate = gates[place.node() - first];
+            let gate = circuit.gates[place.node() - circuit.first];
             need(copies, flipped_by(gate.left(), place));
             need(copies, flipped_by(gate.right(), place));
         }

@@ -2,7 +2,7 @@ use Rattle.std.proofs.Common.{◌≡◌, ◌-◌, false, ◌&&◌, eqb, [], ◌�
 use Rattle.std.proofs.lemmas.Result.{MatchResult-weaker}
 use Rattle.std.proofs.lemmas.Bool.{and_left, and_right}
 use Rattle.copying.specs.Gates.{gate_in}
-use Rattle.copying.specs.Table.{Grown}
+use Rattle.copying.specs.Guard.{Grown}
 use Rattle.copying.proofs.Up.{gate_is, place_low, same_copied, new_copied, new_stopped}
 use Rattle.copying.proofs.making.copy_gate.Goals as goal
 use Rattle.copying.proofs.making.copy_gate.Goals.{else-eq-via-then-eq+else-eq-2, else-eq-via-else-eq}
@@ -27,7 +27,7 @@ returns-then-eq-2 c =
     same_copied m c.args.copies.now c.args.place.code (c.node.result - m.first) _ (omega arith) (omega arith)
     c.left-left.result.code c.right-right.result.code c.flipped_by.result.code c.flipped_by-2.result.code c.copy_of-left_copy.result.code c.copy_of-right_copy.result.code
     c.left-left.ensures c.right-right.ensures c.flipped_by.ensures c.flipped_by-2.ensures c.copy_of-left_copy.ensures c.copy_of-right_copy.ensures
-    c.plain.result c.requires.room (let h = c.if-eq.ensures in search rules) (let h = c.if-eq-2.ensures in search rules) c.plain.ensures
+    c.plain.result m.room (let h = c.if-eq.ensures in search rules) (let h = c.if-eq-2.ensures in search rules) c.plain.ensures
 
 pub returns-else-eq : goal.returns-else-eq
 returns-else-eq c =

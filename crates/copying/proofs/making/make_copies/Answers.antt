@@ -13,7 +13,7 @@ loop-number-init c = (grown_none c.args.making.now (omega arith), passed_none _ 
 pub copy_gate-requires : goal.copy_gate-requires
 copy_gate-requires c =
     let m₀ = c.args.making.now in
-    let part = part_in c.args.bounds c.args.play.now in
+    let part = part_in c.args.lost.bounds c.args.lost.play.now in
     let ns = shown c.args.copies.now in
     let l = c.place_at-place.result.code in
     let now_at = going_at m₀ part ns c.loop-number.number l _ _ _ _ (sym c.place_at-place.ensures) refl refl c.loop-number.invariant in
@@ -21,10 +21,8 @@ copy_gate-requires c =
     let long = grown_length m₀ c.loop-number.making _ G in
     let deep : m₀.first ≤ l / 2 = omega (arith, G.first_is) in
     let within : l / 2 < m₀.first + m₀.used = omega arith in
-    let low = inputs_low m₀ c.loop-number.making part ns l c.loop-number.copies c.requires.start c.requires.room c.requires.ascending deep within G now_at.1 in
+    let low = inputs_low m₀ c.loop-number.making part ns l c.loop-number.copies c.requires.start (omega (arith, m₀.room)) c.requires.ascending deep within G now_at.1 in
     record {
-      small = omega (arith, G.first_is);
-      room = omega (arith, G.used_is, G.made_is, G.room);
       deep = omega (arith, G.first_is);
       within = omega (arith, G.first_is, G.used_is);
       left = omega (arith, low.0);
@@ -34,7 +32,7 @@ copy_gate-requires c =
 pub returns-in_err-copy : goal.returns-in_err-copy
 returns-in_err-copy c =
     let m₀ = c.args.making.now in
-    let part = part_in c.args.bounds c.args.play.now in
+    let part = part_in c.args.lost.bounds c.args.lost.play.now in
     let ns = shown c.args.copies.now in
     let cs = c.loop-number.copies in
     let l = c.place_at-place.result.code in
@@ -44,12 +42,12 @@ returns-in_err-copy c =
     let deep : m₀.first ≤ l / 2 = omega (arith, G.first_is) in
     let within : l / 2 < m₀.first + m₀.used = omega arith in
     let p = err_from_is_err_and c.from_residual.result c.from_residual.ensures.1 in
-    rw p.1 (gate_stopped m₀ c.loop-number.making part ns l cs c.requires.start c.requires.room c.requires.ascending deep within G now_at.1 c.copy_gate.new.making (2 * length c.args.copies.now) (wanted_there m₀ part ns l c.loop-number.making cs c.at.result c.is_some.result (omega arith) o c.is_some.ensures c.if-is_some.true now_at) (omega arith) c.in_err-copy.ensures)
+    rw p.1 (gate_stopped m₀ c.loop-number.making part ns l cs c.requires.start (omega (arith, m₀.room)) c.requires.ascending deep within G now_at.1 c.copy_gate.new.making (2 * length c.args.copies.now) (wanted_there m₀ part ns l c.loop-number.making cs c.at.result c.is_some.result (omega arith) o c.is_some.ensures c.if-is_some.true now_at) (omega arith) c.in_err-copy.ensures)
 
 pub loop-number-preserved : goal.loop-number-preserved
 loop-number-preserved c =
     let m₀ = c.args.making.now in
-    let part = part_in c.args.bounds c.args.play.now in
+    let part = part_in c.args.lost.bounds c.args.lost.play.now in
     let ns = shown c.args.copies.now in
     let cs = c.loop-number.copies in
     let m = c.loop-number.making in
@@ -65,7 +63,7 @@ loop-number-preserved c =
             w.put_copy.ensures w.put_copy.auto.copies (omega (arith, G.first_is, w'.if-node-making.true, w.node-then-is_some.ensures)) (ap (λ x. x.code) w'.copy-is ∙ w'.input_copy-copy.ensures))
         | else-node-making+in_ok-copy w' ↦ going_at m₀ part ns (suc l) _ _ _ _ _ next (sym (w.making-is ∙ w'.making-is)) (sym w.copies-is)
             (going_gate m₀ part ns l m cs w.put_copy.new.copies c.at.result c.is_some.result w.if-node-making.copy (omega arith) o c.is_some.ensures w.if-is_some.true now_at
-            w.put_copy.ensures w.put_copy.auto.copies w'.copy_gate.new.making c.requires.start c.requires.room c.requires.ascending (omega (arith, G.first_is, w'.if-node-making.false, w.node-then-is_some.ensures)) (omega arith)
+            w.put_copy.ensures w.put_copy.auto.copies w'.copy_gate.new.making c.requires.start (omega (arith, m₀.room)) c.requires.ascending (omega (arith, G.first_is, w'.if-node-making.false, w.node-then-is_some.ensures)) (omega arith)
             (subst (λ x. GateCopied m w'.copy_gate.new.making cs l x) (sym w'.copy-is) w'.in_ok-copy.ensures))
       ]
       | else-is_some w ↦ going_at m₀ part ns (suc l) _ _ _ _ _ next (sym w.making-is) (sym w.copies-is)
@@ -75,5 +73,5 @@ loop-number-preserved c =
 pub returns : goal.returns
 returns c =
     let e : c.loop-number.number ≡ 2 * length c.args.copies.now = omega arith in
-    let I = going_at c.args.making.now (part_in c.args.bounds c.args.play.now) (shown c.args.copies.now) c.loop-number.number _ _ _ _ _ e refl refl c.loop-number.invariant in
+    let I = going_at c.args.making.now (part_in c.args.lost.bounds c.args.lost.play.now) (shown c.args.copies.now) c.loop-number.number _ _ _ _ _ e refl refl c.loop-number.invariant in
     record { grown = I.0; copies = passed_all _ _ _ _ c.loop-number.copies (2 * length c.args.copies.now) (omega arith) I.1 }

@@ -1,7 +1,7 @@
 use Rattle.std.proofs.Common.{length, arith}
 use Rattle.std.proofs.lemmas.Result.{MatchResult-weaker, err_from_is_err_and}
 use Rattle.copying.proofs.Entries.{grown_length}
-use Rattle.copying.proofs.Settling.{copies_stopped, joins_stopped, root_stopped, root_made, grown_joins}
+use Rattle.copying.proofs.Settling.{copies_stopped, joins_stopped, root_stopped, root_made}
 use Rattle.copying.proofs.making.make_gates.Goals as goal
 
 pub returns-in_err-make_copies : goal.returns-in_err-make_copies
@@ -15,8 +15,6 @@ join_core-requires c =
     let long = grown_length c.args.making.now c.make_copies.new.making _ G in
     let k = c.make_copies.auto.copies in
     record {
-      small = omega (arith, G.first_is);
-      room = omega (arith, G.used_is, G.made_is, G.room);
       core = omega arith;
       values = omega arith;
       nodes = omega arith;
@@ -27,14 +25,6 @@ returns-in_err-joined c =
     let p = err_from_is_err_and c.from_residual-in_err-joined.result c.from_residual-in_err-joined.ensures.1 in
     rw p.1 (joins_stopped c.args.making.now c.args.lost c.args.copies.now c.make_copies.new.making c.make_copies.new.copies c.requires.start c.in_ok-make_copies.ensures
     (length c.make_copies.new.copies) c.make_copies.auto.copies c.join_core.new.making c.in_err-joined.ensures)
-
-pub add-requires : goal.add-requires
-add-requires c =
-    let m = c.args.making.now in
-    let G = grown_joins m c.args.lost c.args.copies.now c.make_copies.new.making c.make_copies.new.copies c.requires.start c.in_ok-make_copies.ensures
-    (length c.make_copies.new.copies) c.make_copies.auto.copies c.join_core.new.making c.in_ok-joined.joined c.in_ok-joined.ensures in
-    let long = grown_length m c.join_core.new.making _ G in
-    record { small = omega (arith, G.first_is); room = omega (arith, G.used_is, G.made_is, G.room) }
 
 pub returns : goal.returns
 returns c =

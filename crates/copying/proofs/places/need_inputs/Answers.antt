@@ -10,15 +10,15 @@ use Rattle.copying.proofs.places.need_inputs.Goals as goal
 
 pub need-requires : goal.need-requires
 need-requires c =
-    let x : c.flipped_by.result.code / 2 < c.args.first + length c.args.gates.now =
-    left_low c.args.first c.args.gates.now _ c.place_at-place.result.code (c.node-then-is_some.result - c.args.first) (omega arith) (omega arith) (omega arith) c.requires.ascending
+    let x : c.flipped_by.result.code / 2 < c.args.circuit.first + length c.args.circuit.gates.now =
+    left_low c.args.circuit.first c.args.circuit.gates.now _ c.place_at-place.result.code (c.node-then-is_some.result - c.args.circuit.first) (omega arith) (omega arith) (omega arith) c.args.circuit.ascending
     c.left.result.code c.flipped_by.result.code c.left.ensures c.flipped_by.ensures in
     omega arith
 
 pub need-requires-then-is_some : goal.need-requires-then-is_some
 need-requires-then-is_some c =
-    let x : c.flipped_by-then-is_some.result.code / 2 < c.args.first + length c.args.gates.now =
-    right_low c.args.first c.args.gates.now _ c.place_at-place.result.code (c.node-then-is_some.result - c.args.first) (omega arith) (omega arith) (omega arith) c.requires.ascending
+    let x : c.flipped_by-then-is_some.result.code / 2 < c.args.circuit.first + length c.args.circuit.gates.now =
+    right_low c.args.circuit.first c.args.circuit.gates.now _ c.place_at-place.result.code (c.node-then-is_some.result - c.args.circuit.first) (omega arith) (omega arith) (omega arith) c.args.circuit.ascending
     c.right.result.code c.flipped_by-then-is_some.result.code c.right.ensures c.flipped_by-then-is_some.ensures in
     omega arith
 
@@ -29,9 +29,9 @@ loop-number-preserved-then-is_some c =
     let s : c.loop-number.number ≡ suc i = omega arith in
     let t = sym (shown_read cs i i c.node.result (omega arith) refl c.node.ensures) ∙ ap is_some (sym c.at.ensures) ∙ sym c.is_some.ensures ∙ c.if-is_some.true in (
       omega arith,
-      ap₂ (sweep (needs c.args.first (pairs c.args.gates.now))) (sym c.place_at-place.ensures)
+      ap₂ (sweep (needs c.args.circuit.first (pairs c.args.circuit.gates.now))) (sym c.place_at-place.ensures)
           (c.need-then-is_some.ensures ∙ ap (λ ms. set ms c.flipped_by-then-is_some.result.code true) c.need.ensures)
-          ∙ both_needed c.args.first c.args.gates.now _ i (c.node-then-is_some.result - c.args.first) (omega arith) (omega arith) (omega arith) c.requires.ascending
+          ∙ both_needed c.args.circuit.first c.args.circuit.gates.now _ i (c.node-then-is_some.result - c.args.circuit.first) (omega arith) (omega arith) (omega arith) c.args.circuit.ascending
           c.loop-number.number (shown cs) c.left.result.code c.right.result.code c.flipped_by.result.code c.flipped_by-then-is_some.result.code s
           c.left.ensures c.flipped_by.ensures c.right.ensures c.flipped_by-then-is_some.ensures t
           ∙ c.loop-number.invariant.1,
@@ -44,9 +44,9 @@ loop-number-preserved c =
     let s : c.loop-number.number ≡ suc i = omega arith in
     let t = sym (shown_read cs i i c.node.result (omega arith) refl c.node.ensures) ∙ ap is_some (sym c.at.ensures) ∙ sym c.is_some.ensures ∙ c.if-is_some.false in (
       omega arith,
-      ap (λ n. sweep (needs c.args.first (pairs c.args.gates.now)) n (shown cs)) (sym c.place_at-place.ensures)
-          ∙ sweep_past c.args.first (pairs c.args.gates.now) i c.loop-number.number (shown cs) s t ∙ c.loop-number.invariant.1,
+      ap (λ n. sweep (needs c.args.circuit.first (pairs c.args.circuit.gates.now)) n (shown cs)) (sym c.place_at-place.ensures)
+          ∙ sweep_past c.args.circuit.first (pairs c.args.circuit.gates.now) i c.loop-number.number (shown cs) s t ∙ c.loop-number.invariant.1,
     )
 
 pub returns : goal.returns
-returns c = sym (sweep_inputs c.args.first (pairs c.args.gates.now) c.loop-number.number (shown c.loop-number.copies) (omega arith)) ∙ c.loop-number.invariant.1
+returns c = sym (sweep_inputs c.args.circuit.first (pairs c.args.circuit.gates.now) c.loop-number.number (shown c.loop-number.copies) (omega arith)) ∙ c.loop-number.invariant.1

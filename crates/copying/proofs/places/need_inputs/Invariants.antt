@@ -9,4 +9,4 @@ use Rattle.copying.proofs.places.need_inputs.Given as goal
 abbrev pub invariant-loop-number : goal.invariant-loop-number
 invariant-loop-number l =
     (l.number ≤ 2 * length l.copies) ×
-    (sweep (needs l.first (pairs l.gates)) l.number (shown l.copies) ≡ sweep (needs l.first (pairs l.gates)) (2 * length l.initial.copies) (shown l.initial.copies))
+    (sweep (needs l.circuit.first (pairs l.circuit.gates.now)) l.number (shown l.copies) ≡ sweep (needs l.circuit.first (pairs l.circuit.gates.now)) (2 * length l.initial.copies) (shown l.initial.copies))
