@@ -1,7 +1,6 @@
 -- A level's cut, its query, and what a reply leaves. Assumes nothing.
 use Rattle.std.proofs.Common.{◌≡◌, ℕ, ◌+◌, ◌-◌, ◌/◌, ◌<◌, ◌≤◌, Bool, true, false, cond, eqb, ltb, ◌≢◌, List, ◌++◌, map, length, take, drop, replicate, Some, None, Option, sym, refl, ap, ◌∙◌, arith}
 use borrow.Rule.Slice.PartMut.{put_mid, put_same}
-use Rattle.std.specs.List.{range_with_len}
 use Rattle.std.proofs.lemmas.List.FromFn.{get_or-map-range_with_len, length-map-range_with_len}
 use Rattle.std.proofs.lemmas.List.{get_or-take, get_or-drop, get_or-replicate, length-map, drop-drop}
 use Rattle.std.proofs.lemmas.Bool.{ltb-true, ltb-false, cond-false, ne_eqb, le-ltb}
@@ -9,11 +8,11 @@ use Rattle.valuation.specs.declared.Value.{Value}
 use Rattle.valuation.specs.declared.Value.TheVariants.{Unknown, False}
 use Rattle.valuation.specs.Three.{of_bool}
 use Rattle.valuation.specs.Circuit.{Pair, Ascending, nothing, reads, settings_from, node_values}
-use Rattle.valuation.specs.Reach.{reach, where_marked, cut}
+use Rattle.valuation.specs.Reach.{cut}
 use Rattle.valuation.proofs.Cut.{cut_sound}
 use Rattle.search.specs.Queries.{Query, Sound, nodes}
 use Rattle.search.specs.Answers.{Outcome, moves, loses, Answer, Right, ceiling, paid, reply_of, setting_of, range_after, core_of, marks_after}
-use Rattle.runs.specs.Turn.{values_under, cut_list, level_query, within}
+use Rattle.runs.specs.Turn.{values_under, level_query, within}
 use Rattle.runs.specs.Calls.{RightReply}
 use Rattle.search.specs.declared.Reply.TheVariants.{Spent}
 use Rattle.asking.specs.Asked.{reply_for, play_by, play_for}
