@@ -103,9 +103,9 @@ pub fn ask_level<S: Searcher>(
         gates,
     };
     let nodes = circuit.nodes();
-    let values = &mut values[0..nodes];
-    let forced = &mut forced[0..nodes];
-    let marks = &mut marks[0..nodes];
+    let values = &mut values[..nodes];
+    let forced = &mut forced[..nodes];
+    let marks = &mut marks[..nodes];
     force_cut(circuit, level.root, play, values, forced, marks);
     let ask = Ask {
         variables: level.variables,
@@ -160,11 +160,11 @@ pub fn settle_level(
 {
     let circuit = Circuit {
         first,
-        gates: &gates[0..used],
+        gates: &gates[..used],
     };
     let nodes = circuit.nodes();
-    let values = &mut values[0..nodes];
-    circuit.work_out(loss.play, &unforced[0..nodes], values);
+    let values = &mut values[..nodes];
+    circuit.work_out(loss.play, &unforced[..nodes], values);
     let lost = Lost {
         core: loss.core,
         values,

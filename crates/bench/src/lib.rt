@@ -24,6 +24,8 @@ mod desks;
 mod opening;
 mod settling;
 mod tables;
+#[cfg(test)]
+mod tests;
 mod turning;
 
 // The most variables, gates and nodes that there are.

@@ -58,7 +58,7 @@ impl GateTable {
     pub fn gates(&self) -> &[Gate]
         ensures { result.now ≡ take self.now.table.used self.now.table.entries.items }
     {
-        &self.table.entries[0..self.table.used]
+        &self.table.entries[..self.table.used]
     }
 }
 

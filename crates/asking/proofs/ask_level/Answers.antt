@@ -45,8 +45,8 @@ pub query-reply-requires-clause-unmarked : goal.query-reply-requires-clause-unma
 query-reply-requires-clause-unmarked g c =
     let n = 1 + c.args.level.variables + length c.args.gates.now in
     let k = c.nodes-nodes.result in
-    let wide : length c.force_cut.new.forced ≡ n = c.force_cut.auto.forced ∙ length-take-le (k - 0) c.args.forced.now (omega (arith, c.requires.forced.long)) ∙ omega arith in
-    c.force_cut.ensures.marks ∙ front_zero false n (k - 0) c.args.marks.now c.requires.marks (omega arith) ∙ ap (λ j. replicate j false) (sym wide)
+    let wide : length c.force_cut.new.forced ≡ n = c.force_cut.auto.forced ∙ length-take-le k c.args.forced.now (omega (arith, c.requires.forced.long)) ∙ omega arith in
+    c.force_cut.ensures.marks ∙ front_zero false n k c.args.marks.now c.requires.marks (omega arith) ∙ ap (λ j. replicate j false) (sym wide)
 
 pub returns : goal.returns
 returns g c =
@@ -64,19 +64,19 @@ returns g c =
     let k = c.nodes-nodes.result in
     let f = part l gs play fit in
     let e = put_is l gs play c.force_cut.new.forced _ c.force_cut.ensures.forced f in
-    let wide : length c.force_cut.new.forced ≡ n = c.force_cut.auto.forced ∙ length-take-le (k - 0) c.args.forced.now (omega (arith, c.requires.forced.long)) ∙ omega arith in
-    let long : length c.force_cut.new.values ≡ n = c.force_cut.auto.values ∙ length-take-le (k - 0) c.args.values.now (omega (arith, c.requires.values.long)) ∙ omega arith in
+    let wide : length c.force_cut.new.forced ≡ n = c.force_cut.auto.forced ∙ length-take-le k c.args.forced.now (omega (arith, c.requires.forced.long)) ∙ omega arith in
+    let long : length c.force_cut.new.values ≡ n = c.force_cut.auto.values ∙ length-take-le k c.args.values.now (omega (arith, c.requires.values.long)) ∙ omega arith in
     record {
       same = c.query-reply.ensures.same;
       right = right_within l.allowance a q (keeps.right q s) (keeps.some q s) (keeps.bounded q s);
       reply = c.query-reply.ensures.reply ∙ ap (λ (x : Query). reply_of (m x) l.allowance) e ∙ reply_within l.allowance a;
       play = ap (λ (xs : List Value). put_mid l.below (l.below + l.free - l.below) play xs) (c.query-reply.ensures.range ∙ ap₂ (λ (x : Query) (j : ℕ). range_after (m x) l.allowance j) e f)
           ∙ play_within l.allowance a l.below l.free (l.below + l.free - l.below) play (omega arith) fit.unset (fits_right q a (keeps.right q s));
-      marks = marks_front r (k - 0) c.args.marks.now c.query-reply.new.marks
+      marks = marks_front r k c.args.marks.now c.query-reply.new.marks
           (c.query-reply.ensures.marks ∙ ap₂ (λ (x : Query) (j : ℕ). marks_after (m x) l.allowance j) e wide ∙ marks_within l.allowance a n
-          ∙ ap (marks_for r) (sym (front_zero false n (k - 0) c.args.marks.now c.requires.marks (omega arith))))
-          (c.query-reply.auto.marks ∙ c.force_cut.auto.marks ∙ length-take-le (k - 0) c.args.marks.now (omega (arith, c.requires.marks.long)));
-      values = zero_front Unknown n (k - 0) c.args.values.now c.fill.new.self c.requires.values (omega arith) (c.fill.ensures.after (λ y h. h) ∙ ap (λ j. replicate j Unknown) long);
-      forced = zero_front Unknown n (k - 0) c.args.forced.now c.fill-2.new.self c.requires.forced (omega arith)
+          ∙ ap (marks_for r) (sym (front_zero false n k c.args.marks.now c.requires.marks (omega arith))))
+          (c.query-reply.auto.marks ∙ c.force_cut.auto.marks ∙ length-take-le k c.args.marks.now (omega (arith, c.requires.marks.long)));
+      values = zero_front Unknown n k c.args.values.now c.fill.new.self c.requires.values (omega arith) (c.fill.ensures.after (λ y h. h) ∙ ap (λ j. replicate j Unknown) long);
+      forced = zero_front Unknown n k c.args.forced.now c.fill-2.new.self c.requires.forced (omega arith)
           (c.fill-2.ensures.after (λ y h. h) ∙ ap (λ j. replicate j Unknown) (c.query-reply.auto.forced ∙ wide));
     }
