@@ -34,16 +34,14 @@ reach_marked first gs v ms root n asc =
     sweep (leads first (pairs gs) v) n (set ms root true) ≡ reach first (pairs gs) v root ++ drop (first + s) ms)
     (length_pairs gs) (sweep_reach first (pairs gs) v ms root n asc)
 
--- the last of some first elements, taken off
-module _ {X : Type 0} (xs left kept : List X) (x : X) (is : left ≡ kept ++ (x ∷ [])) (few : length left ≤ length xs) (first : left ≡ take (length left) xs) where
-  pub left_longer : length left ≡ length kept + 1
-  left_longer = ap length is ∙ length_push kept x
-
-  same : kept ++ (x ∷ []) ≡ take (length kept) xs ++ (get_or xs (length kept) x ∷ [])
-  same = sym is ∙ first ∙ ap (λ n. take n xs) left_longer ∙ take_more xs (length kept) x (omega (arith, left_longer))
-
+-- `left` are the first elements of xs, and `kept` are they without the last, which is x
+pub record TakenBack {X : Type 0} (xs left kept : List X) (x : X) : Type 0 where
+  pub longer : length left ≡ length kept + 1
   pub kept_first : kept ≡ take (length kept) xs
-  kept_first = (same_from_push _ _ _ _ same).0
+  pub last : x ≡ get_or xs (length kept) x
 
-  pub taken_off : x ≡ get_or xs (length kept) x
-  taken_off = (same_from_push _ _ _ _ same).1
+pub taken_back : {X : Type 0} (xs left kept : List X) (x : X) → left ≡ kept ++ (x ∷ []) → length left ≤ length xs → left ≡ take (length left) xs → TakenBack xs left kept x
+taken_back xs left kept x is few first =
+    let longer : length left ≡ length kept + 1 = ap length is ∙ length_push kept x in
+    let same = same_from_push _ _ _ _ (sym is ∙ first ∙ ap (λ n. take n xs) longer ∙ take_more xs (length kept) x (omega arith)) in
+    record { longer = longer; kept_first = same.0; last = same.1 }

@@ -1,11 +1,7 @@
 use Rattle.std.proofs.Common.{◌≤◌, length, arith}
-use Rattle.std.proofs.lemmas.List.{length-take}
 use Rattle.valuation.specs.Circuit.{reads}
 use Rattle.circuit.proofs.Stops.{length_walked, walked_up_to, literal_walked}
 use Rattle.circuit.proofs.Circuit.evaluate.Goals as goal
-
-pub walk-requires : goal.walk-requires
-walk-requires g c = rw (c.up_to.ensures.first, c.up_to.ensures.gates, length-take) (record { covered = omega arith; room = omega arith })
 
 pub returns : goal.returns
 returns g c =

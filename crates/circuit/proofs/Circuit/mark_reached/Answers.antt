@@ -5,7 +5,7 @@ use Rattle.valuation.specs.Sweep.{marked, sweep}
 use Rattle.valuation.specs.Reach.{inputs_of, leads}
 use Rattle.valuation.proofs.Reaching.{sweep_inputs, sweep_gate, sweep_past}
 use Rattle.circuit.specs.Gates.{pair, pairs}
-use Rattle.circuit.proofs.Records.{pair_at, reads_below, reach_marked, left_longer, kept_first, taken_off}
+use Rattle.circuit.proofs.Records.{pair_at, reads_below, reach_marked, taken_back}
 use Rattle.circuit.proofs.Circuit.mark_reached.Goals as goal
 use Rattle.circuit.proofs.Circuit.mark_reached.Goals.{else-marks-node-via-then-marks-node+else-eq, else-marks-node-via-else-marks-node}
 
@@ -15,9 +15,9 @@ mark_inputs-requires c =
     let k = length c.next.new.self.iter.iter.rest.now in
     let s = c.in-Some.ensures.steps in
     let i = c.loop-k.invariant in
-    let long = left_longer gates _ _ _ s.1.0 i.1 i.2 in
+    let b = taken_back gates _ _ _ s.1.0 i.1 i.2 in
     let n : c.args.self.first + k ≤ length c.loop-k.marks = omega (arith, length-set c.args.marks.now c.node.result true) in
-    let p = rw (sym (taken_off gates _ _ _ s.1.0 i.1 i.2)) at (reads_below gates c.args.self.first k _ c.in-Some.gate.now c.args.self.ascending (omega arith) n) in
+    let p = rw (sym b.last) at (reads_below gates c.args.self.first k _ c.in-Some.gate.now c.args.self.ascending (omega arith) n) in
     record { left = p.0; right = p.1 }
 
 pub loop-k-preserved-then-eq : goal.loop-k-preserved-then-eq
@@ -28,12 +28,12 @@ loop-k-preserved-then-eq c =
     let L = leads first (pairs gates) (reads c.args.values.now) in
     let s = c.in-Some.ensures.steps in
     let i = c.loop-k.invariant in
-    let long = left_longer gates _ _ _ s.1.0 i.1 i.2 in
+    let b = taken_back gates _ _ _ s.1.0 i.1 i.2 in
     let n : first + length c.loop-k.k-iterator.iter.iter.rest.now ≡ suc (first + k) = omega arith in (
       s.0 ∙ i.0,
       omega arith,
-      kept_first gates _ _ _ s.1.0 i.1 i.2,
-      ap (sweep L (first + k)) (c.mark_inputs.ensures ∙ ap (λ g. marked (inputs_of g) c.loop-k.marks) (ap pair (taken_off gates _ _ _ s.1.0 i.1 i.2) ∙ sym (pair_at gates k _ (omega arith))))
+      b.kept_first,
+      ap (sweep L (first + k)) (c.mark_inputs.ensures ∙ ap (λ g. marked (inputs_of g) c.loop-k.marks) (ap pair b.last ∙ sym (pair_at gates k _ (omega arith))))
           ∙ sweep_gate first (pairs gates) (reads c.args.values.now) k c.loop-k.marks _ n (let h = c.if-marks-node.true in search rules) (let h = c.if-eq.ensures in search rules)
           ∙ i.3,
     )
@@ -45,11 +45,11 @@ loop-k-preserved c =
     let k = length c.next.new.self.iter.iter.rest.now in
     let s = c.in-Some.ensures.steps in
     let i = c.loop-k.invariant in
-    let long = left_longer gates _ _ _ s.1.0 i.1 i.2 in
+    let b = taken_back gates _ _ _ s.1.0 i.1 i.2 in
     let n : first + length c.loop-k.k-iterator.iter.iter.rest.now ≡ suc (first + k) = omega arith in (
       s.0 ∙ i.0,
       omega arith,
-      kept_first gates _ _ _ s.1.0 i.1 i.2,
+      b.kept_first,
       sweep_past first (pairs gates) (reads c.args.values.now) k c.loop-k.marks _ n
           (elim c.else-marks-node.branch [
             | else-marks-node-via-then-marks-node+else-eq w ↦ inr (let h = w.if-eq.ensures in search rules)

@@ -1,15 +1,9 @@
-use Rattle.std.proofs.Common.{◌≡◌, ◌+◌, length, take, sym, ◌∙◌, arith, rules}
-use Rattle.std.proofs.lemmas.List.{length-map, length-replicate, length-take}
+use Rattle.std.proofs.Common.{◌≡◌, ◌+◌, length, take, sym, ◌∙◌, arith}
+use Rattle.std.proofs.lemmas.List.{length-map, length-take}
 use Rattle.std.proofs.lemmas.Slice.{drop-append-drop}
 use Rattle.valuation.proofs.Played.{all}
 use Rattle.circuit.specs.Gates.{pair, pairs}
 use Rattle.circuit.proofs.Circuit.work_out.Goals as goal
-
-pub set_inputs-requires : goal.set_inputs-requires
-set_inputs-requires c = rw (length-take, c.requires.unforced, length-replicate) (record { covered = omega arith })
-
-pub walk-requires : goal.walk-requires
-walk-requires c = record { covered = rw (c.requires.unforced, length-replicate) (omega arith); room = search rules }
 
 pub returns : goal.returns
 returns c =
