@@ -11,9 +11,6 @@ use Rattle.copies.proofs.Making.{like_half}
 use Rattle.copies.proofs.Passes.{sweep_gate}
 
 module _ (first : ℕ) (gs : List Gate) (d : Gate) (i k : ℕ) (deep : first ≤ i / 2) (at : k ≡ i / 2 - first) (within : k < length gs) (asc : Ascending first (pairs gs)) where
-  pub left_low : (l x : ℕ) → l ≡ (pair (get_or gs k d)).left → x ≡ like i l → x / 2 < first + length gs
-  left_low l x e f = omega (arith, like_half i l, ap (λ y. y / 2) f, (reads_below gs first k (first + k) d asc within (omega arith)).0)
-
   pub right_low : (l x : ℕ) → l ≡ (pair (get_or gs k d)).right → x ≡ like i l → x / 2 < first + length gs
   right_low l x e f = omega (arith, like_half i l, ap (λ y. y / 2) f, (reads_below gs first k (first + k) d asc within (omega arith)).1)
 

@@ -17,7 +17,7 @@ use Rattle.copying.specs.declared.places.Copies.{Copies}
 use Rattle.copying.specs.Gates.{olds, codes, join_gates, join_code, OneJoined, all_joined, CoreJoined, CoreStopped}
 use Rattle.copying.specs.Places.{copy_code}
 use Rattle.copying.specs.Guard.{Grown, Stopped}
-use Rattle.copying.proofs.Entries.{grown_none, grown_more, stopped_after}
+use Rattle.copying.proofs.Entries.{grown_more, stopped_after}
 
 -- what is joined of some literals, if there are any
 abbrev pub if_any : List ℕ → ℕ → Option Literal
@@ -40,13 +40,6 @@ pub next_literal : (m₀ m : Making) (hs : List Pair) → m₀.made ≡ 0 → Gr
 next_literal m₀ m hs z G =
     let l = length-take-le m₀.used (pairs m₀.gates.now) (omega (arith, length_pairs m₀.gates.now, G.room)) in
     omega (arith, length-append (olds m₀) hs, G.first_is, G.used_is, G.made_is)
-
-pub so_far_none : (m : Making) (cs : List Copies) → m.used + m.made ≤ length m.gates.now → SoFar m m cs [] None
-so_far_none m cs h = record { made = []; grown = grown_none m h; joins = λ m₀ hs z G. (G, refl) }
-
--- the first copy needs no gate
-pub first_joined : (m : Making) (e : Option Literal) (c : Literal) → e ≡ None → m.used + m.made ≤ length m.gates.now → OneJoined m m e c c
-first_joined m e c p h = rw p (record { grown = grown_none m h; literal = refl })
 
 -- one copy c more
 module _ (first : ℕ) (old : List Pair) (cs : List ℕ) (c : Literal) where

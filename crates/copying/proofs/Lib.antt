@@ -1,7 +1,6 @@
 mod Held
 mod Down
 mod Entries
-mod Up
 mod Passed
 mod Joining
 mod Settling

@@ -158,9 +158,6 @@ module _ (m₀ m : Making) (part : ℕ → Part) (ns : List Bool) (l : ℕ) (cs 
       let a = asc (l / 2 - m₀.first) (omega (arith, length_olds)) in
       (omega (arith, a.0), omega (arith, a.1))
 
-  pub inputs_low : ((gate_in m l).left / 2 < l / 2) × ((gate_in m l).right / 2 < l / 2)
-  inputs_low = (rw gate_same (omega (arith, low.0)), rw gate_same (omega (arith, low.1)))
-
   code_same : (x : ℕ) → x < 2 * (l / 2) → copy_code cs (like l x) ≡ get_or made_so_far.copies (like l x) 0
   code_same x h = P.done (like l x) (omega (arith, like_half l x))
 

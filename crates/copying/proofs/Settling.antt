@@ -21,7 +21,7 @@ use Rattle.copying.specs.Settle.{core_in, parts, new_gates, fits, answer, table_
 use Rattle.copying.specs.Places.{none, shown}
 use Rattle.copying.specs.Table.{written, BlankFrom}
 use Rattle.copying.specs.Guard.{Grown, Stopped}
-use Rattle.copying.proofs.Entries.{grown_more, grown_length, stopped_after, stopped_sooner, restored}
+use Rattle.copying.proofs.Entries.{grown_more, stopped_after, stopped_sooner, restored}
 use Rattle.copying.proofs.Held.{none_shown}
 use Rattle.copying.proofs.Joining.{next_literal}
 
@@ -123,9 +123,6 @@ module _ (m m' : Making) (t : Lost) (cs : List Copies) (first used : ℕ) (table
   module _ (S : Stopped m m' (length (gates_of m t cs))) where
     none_fit : fits table used news ≡ false
     none_fit = lt-leb (used + length news) (length table) (omega (arith, S.full, ap length gates_same, length_table))
-
-    pub stopped_room : m'.used + m'.made ≤ length m'.gates.now
-    stopped_room = omega (arith, S.grown.room, S.grown.used_is, S.grown.made_is, grown_length m m' S.made S.grown)
 
     pub stopped_answer : (r : Result Settled Full) (y : Full) → r ≡ Err y → r ≡ answer first table used t
     stopped_answer r y e = e ∙ sym (cond-false (fits table used news) _ _ none_fit)

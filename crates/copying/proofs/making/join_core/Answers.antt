@@ -4,12 +4,9 @@ use Rattle.std.proofs.lemmas.Result.{err_from_is_err_and}
 use Rattle.valuation.specs.Circuit.{reads}
 use Rattle.copies.specs.Make.{core_of}
 use Rattle.copies.proofs.Passes.{core_node, core_push, core_shorter}
-use Rattle.copying.proofs.Joining.{SoFar, copy_core, so_far_none, so_far_more, so_far_same, so_far_stopped, joined_or}
+use Rattle.copying.proofs.Joining.{SoFar, copy_core, so_far_more, so_far_same, so_far_stopped, joined_or}
 use Rattle.copying.proofs.making.join_core.Goals as goal
 use Rattle.copying.proofs.making.join_core.Goals.{in-Some+in_ok-join_copy, in_default}
-
-pub loop-node-init : goal.loop-node-init
-loop-node-init c = so_far_none c.args.making.now c.args.copies.now c.args.making.now.room
 
 pub returns-in_err-join_copy : goal.returns-in_err-join_copy
 returns-in_err-join_copy c =

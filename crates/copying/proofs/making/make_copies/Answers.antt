@@ -2,32 +2,13 @@ use Rattle.std.proofs.Common.{◌≡◌, suc, ◌+◌, ◌*◌, ◌/◌, ◌<◌
 use Rattle.std.proofs.lemmas.Result.{err_from_is_err_and}
 use Rattle.copying.specs.Gates.{part_in, GateCopied}
 use Rattle.copying.specs.Places.{none, held_in, shown}
-use Rattle.copying.proofs.Entries.{grown_none, grown_length}
-use Rattle.copying.proofs.Passed.{passed_none, passed_all, inputs_low, gate_stopped, going_at, going_skip, wanted_there, going_input, going_gate}
+use Rattle.copying.proofs.Entries.{grown_none}
+use Rattle.copying.proofs.Passed.{passed_none, passed_all, gate_stopped, going_at, going_skip, wanted_there, going_input, going_gate}
 use Rattle.copying.proofs.making.make_copies.Goals as goal
 use Rattle.copying.proofs.making.make_copies.Goals.{then-is_some, else-is_some, then-node-making, else-node-making+in_ok-copy}
 
 pub loop-number-init : goal.loop-number-init
 loop-number-init c = (grown_none c.args.making.now (omega arith), passed_none _ _ _ _ c.args.copies.now refl)
-
-pub copy_gate-requires : goal.copy_gate-requires
-copy_gate-requires c =
-    let m₀ = c.args.making.now in
-    let part = part_in c.args.lost.bounds c.args.lost.play.now in
-    let ns = shown c.args.copies.now in
-    let l = c.place_at-place.result.code in
-    let now_at = going_at m₀ part ns c.loop-number.number l _ _ _ _ (sym c.place_at-place.ensures) refl refl c.loop-number.invariant in
-    let G = now_at.0 in
-    let long = grown_length m₀ c.loop-number.making _ G in
-    let deep : m₀.first ≤ l / 2 = omega (arith, G.first_is) in
-    let within : l / 2 < m₀.first + m₀.used = omega arith in
-    let low = inputs_low m₀ c.loop-number.making part ns l c.loop-number.copies c.requires.start (omega (arith, m₀.room)) c.requires.ascending deep within G now_at.1 in
-    record {
-      deep = omega (arith, G.first_is);
-      within = omega (arith, G.first_is, G.used_is);
-      left = omega (arith, low.0);
-      right = omega (arith, low.1);
-    }
 
 pub returns-in_err-copy : goal.returns-in_err-copy
 returns-in_err-copy c =

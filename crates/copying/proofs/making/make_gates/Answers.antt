@@ -1,6 +1,5 @@
-use Rattle.std.proofs.Common.{length, arith}
+use Rattle.std.proofs.Common.{length}
 use Rattle.std.proofs.lemmas.Result.{MatchResult-weaker, err_from_is_err_and}
-use Rattle.copying.proofs.Entries.{grown_length}
 use Rattle.copying.proofs.Settling.{copies_stopped, joins_stopped, root_stopped, root_made}
 use Rattle.copying.proofs.making.make_gates.Goals as goal
 
@@ -8,17 +7,6 @@ pub returns-in_err-make_copies : goal.returns-in_err-make_copies
 returns-in_err-make_copies c =
     let p = err_from_is_err_and c.from_residual.result c.from_residual.ensures.1 in
     rw p.1 (copies_stopped c.args.making.now c.args.lost c.args.copies.now c.make_copies.new.making c.in_err-make_copies.ensures)
-
-pub join_core-requires : goal.join_core-requires
-join_core-requires c =
-    let G = c.in_ok-make_copies.ensures.grown in
-    let long = grown_length c.args.making.now c.make_copies.new.making _ G in
-    let k = c.make_copies.auto.copies in
-    record {
-      core = omega arith;
-      values = omega arith;
-      nodes = omega arith;
-    }
 
 pub returns-in_err-joined : goal.returns-in_err-joined
 returns-in_err-joined c =

@@ -5,15 +5,8 @@ use Rattle.copies.specs.Make.{needs}
 use Rattle.copies.proofs.Passes.{sweep_past, sweep_inputs}
 use Rattle.copying.specs.Places.{shown}
 use Rattle.copying.proofs.Held.{shown_read}
-use Rattle.copying.proofs.Down.{left_low, right_low, both_needed}
+use Rattle.copying.proofs.Down.{right_low, both_needed}
 use Rattle.copying.proofs.places.need_inputs.Goals as goal
-
-pub need-requires : goal.need-requires
-need-requires c =
-    let x : c.flipped_by.result.code / 2 < c.args.circuit.first + length c.args.circuit.gates.now =
-    left_low c.args.circuit.first c.args.circuit.gates.now _ c.place_at-place.result.code (c.node-then-is_some.result - c.args.circuit.first) (omega arith) (omega arith) (omega arith) c.args.circuit.ascending
-    c.left.result.code c.flipped_by.result.code c.left.ensures c.flipped_by.ensures in
-    omega arith
 
 pub need-requires-then-is_some : goal.need-requires-then-is_some
 need-requires-then-is_some c =

@@ -1,16 +1,10 @@
-use Rattle.std.proofs.Common.{◌+◌, ◌<◌, ◌≤◌, [], length, sym, refl, ◌∙◌, arith}
+use Rattle.std.proofs.Common.{◌+◌, ◌<◌, length, sym, refl, ◌∙◌, arith}
 use Rattle.std.proofs.lemmas.List.{map-set}
-use Rattle.std.proofs.lemmas.Bool.{leb-true, leb-false}
+use Rattle.std.proofs.lemmas.Bool.{leb-false}
 use Rattle.circuit.proofs.Records.{length_pairs}
 use Rattle.circuit.specs.Gates.{pair, pairs}
-use Rattle.copying.proofs.Entries.{grown_none, written_one}
+use Rattle.copying.proofs.Entries.{written_one}
 use Rattle.copying.proofs.guard.Making.add.Goals as goal
-
-pub returns-then-is_full : goal.returns-then-is_full
-returns-then-is_full c =
-    let m = c.args.self.now in
-    let full : length m.gates.now ≤ m.used + m.made = leb-true _ _ (sym c.is_full.ensures ∙ c.if-is_full.true) in
-    record { made = []; grown = grown_none m m.room; full = omega arith }
 
 pub returns : goal.returns
 returns c =
