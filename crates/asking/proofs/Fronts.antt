@@ -1,8 +1,9 @@
 -- The front of a longer list, lent and put back. Assumes nothing.
-use Rattle.std.proofs.Common.{◌≡◌, ℕ, ◌+◌, ◌-◌, ◌≤◌, Bool, List, ◌++◌, length, take, drop, replicate, Some, None, Option, sym, refl, ap, ◌∙◌, arith}
-use Rattle.std.proofs.lemmas.List.{take-append-drop, take-replicate, drop_at, take_at}
+use Rattle.std.proofs.Common.{◌≡◌, ℕ, ◌+◌, Bool, List, ◌++◌, length, take, drop, replicate, Some, None, Option, sym, ap, ◌∙◌, arith}
+use Rattle.std.proofs.lemmas.List.{take-append-drop, take-replicate}
 use Rattle.search.specs.Answers.{Outcome, moves, loses, Answer}
-use Rattle.asking.specs.Asked.{Zero, marks_by, marks_for, marks_in, marks_over}
+use Rattle.asking.specs.Asked.{Zero, marks_in, marks_over}
+use Rattle.asking.proofs.Levels.{marks_by, marks_for}
 
 -- the front of a list of zeros
 pub front_zero : {X : Type 0} (zero : X) (n k : ℕ) (xs : List X) → Zero zero n xs → k ≡ n → take k xs ≡ replicate n zero
@@ -21,8 +22,6 @@ marks_front (Some a) k marks ms e l = by a.outcome e
     by (moves s) h = same_front k marks ms h
     by (loses core) h = ap (λ xs. xs ++ drop k marks) h ∙ ap (λ j. core ++ drop j marks) (let f : k ≡ 0 + length core = omega (arith, ap length h) in f)
 
--- a front of zeros that was written and filled again
-pub filled_front : {X : Type 0} (zero : X) (k : ℕ) (xs ys zs : List X) → Zero zero k xs → length ys ≡ k → zs ≡ replicate (length (take k (ys ++ drop k xs))) zero → zs ++ drop k (ys ++ drop k xs) ≡ xs
-filled_front zero k xs ys zs z l e =
-    ap (λ ws. zs ++ ws) (drop_at ys (drop k xs) k l)
-    ∙ same_front k xs zs (e ∙ ap (λ ws. replicate (length ws) zero) (take_at ys (drop k xs) k l) ∙ ap (λ j. replicate j zero) l ∙ sym (front_zero zero k k xs z refl))
+-- a front of zeros that was written and is zero again
+pub zero_front : {X : Type 0} (zero : X) (n k : ℕ) (xs zs : List X) → Zero zero n xs → k ≡ n → zs ≡ replicate n zero → zs ++ drop k xs ≡ xs
+zero_front zero n k xs zs z e f = same_front k xs zs (f ∙ sym (front_zero zero n k xs z e))

@@ -1,29 +1,21 @@
 -- A level's cut, its query, and what a reply leaves. Assumes nothing.
-use Rattle.std.proofs.Common.{◌≡◌, ℕ, ◌+◌, ◌-◌, ◌/◌, ◌<◌, ◌≤◌, Bool, true, false, cond, eqb, ltb, ◌≢◌, List, ◌++◌, map, length, get_or, take, drop, replicate, Some, None, Option, sym, refl, ap, ◌∙◌, subst, inl, inr, arith}
-use borrow.Rule.Slice.PartMut.{put_mid, mid_of, Post-is, put_same}
-use Rattle.std.specs.List.{range_with_len}
+use Rattle.std.proofs.Common.{◌≡◌, ℕ, ◌+◌, ◌-◌, ◌/◌, ◌<◌, ◌≤◌, Bool, true, false, cond, eqb, ltb, ◌≢◌, List, ◌++◌, map, length, take, drop, replicate, Some, None, Option, sym, refl, ap, ◌∙◌, arith}
+use borrow.Rule.Slice.PartMut.{put_mid, put_same}
 use Rattle.std.proofs.lemmas.List.FromFn.{get_or-map-range_with_len, length-map-range_with_len}
-use Rattle.std.proofs.lemmas.List.{get_or-take, get_or-drop, get_or-replicate, length-map, drop-drop, length-take-le, length-drop}
+use Rattle.std.proofs.lemmas.List.{get_or-take, get_or-drop, get_or-replicate, length-map, drop-drop}
 use Rattle.std.proofs.lemmas.Bool.{ltb-true, ltb-false, cond-false, ne_eqb, le-ltb}
 use Rattle.valuation.specs.declared.Value.{Value}
 use Rattle.valuation.specs.declared.Value.TheVariants.{Unknown, False}
 use Rattle.valuation.specs.Three.{of_bool}
 use Rattle.valuation.specs.Circuit.{Pair, Ascending, nothing, reads, settings_from, node_values}
-use Rattle.valuation.specs.Reach.{reach, where_marked, cut}
+use Rattle.valuation.specs.Reach.{cut}
 use Rattle.valuation.proofs.Cut.{cut_sound}
 use Rattle.search.specs.Queries.{Query, Sound, nodes}
 use Rattle.search.specs.Answers.{Outcome, moves, loses, Answer, Right, ceiling, paid, reply_of, setting_of, range_after, core_of, marks_after}
-use Rattle.runs.specs.Turn.{values_under, cut_list, level_query, within, with_part}
+use Rattle.runs.specs.Turn.{values_under, level_query, within}
 use Rattle.runs.specs.Calls.{RightReply}
 use Rattle.search.specs.declared.Reply.TheVariants.{Spent}
-use Rattle.asking.specs.Asked.{reply_for, play_by, play_for, marks_by, marks_for}
-
--- the cut from computed values and marks
-pub cut_is : (first : ℕ) (gs : List Pair) (root : ℕ) (play vs : List Value) (ms : List Bool) (n : ℕ) → vs ≡ values_under first gs play → ms ≡ reach first gs (reads vs) (root / 2) → n ≡ first + length gs
-    → map (where_marked ms (reads vs)) (range_with_len 0 n) ≡ cut_list first gs root play
-cut_is first gs root play vs ms n v m k =
-    ap (λ j. map (where_marked ms (reads vs)) (range_with_len 0 j)) k ∙ ap (λ xs. map (where_marked xs (reads vs)) (range_with_len 0 (first + length gs))) m
-    ∙ ap (λ us. map (cut first gs (reads us) (root / 2)) (range_with_len 0 (first + length gs))) v
+use Rattle.asking.specs.Asked.{reply_for, play_by, play_for}
 
 module _ (variables : ℕ) (gs : List Pair) (root : ℕ) (play : List Value) (below free : ℕ) where
   abbrev first : ℕ
@@ -60,6 +52,15 @@ module _ (variables : ℕ) (gs : List Pair) (root : ℕ) (play : List Value) (be
         play = settings_from 1 play;
         witness = record { constant = refl; unset = unset_at unset; gives = gives };
       }
+
+-- the marks of the nodes after an outcome: the core of a no move
+abbrev pub marks_by : Outcome → List Bool → List Bool
+marks_by (moves setting) marks = marks
+marks_by (loses core) marks = core
+
+abbrev pub marks_for : Option Answer → List Bool → List Bool
+marks_for None marks = marks
+marks_for (Some a) marks = marks_by a.outcome marks
 
 -- What a searcher leaves, by whether the allowance covers the need.
 module _ (allowance : ℕ) (a : Answer) where

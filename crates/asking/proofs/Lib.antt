@@ -1,4 +1,3 @@
-mod Cleared
 mod Fronts
 mod Levels
 mod Settles

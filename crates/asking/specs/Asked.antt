@@ -1,5 +1,5 @@
 -- What a level asks, and what the reply leaves in the lists.
-use Rattle.std.specs.Prelude.{◌≡◌, ℕ, ◌+◌, ◌/◌, ◌<◌, ◌≤◌, Bool, false, List, map, length, take, drop, replicate, Some, None, Option}
+use Rattle.std.specs.Prelude.{◌≡◌, ℕ, ◌+◌, ◌/◌, ◌<◌, ◌≤◌, Bool, List, map, length, take, drop, replicate, Some, None, Option}
 use Rattle.valuation.specs.declared.Value.{Value}
 use Rattle.valuation.specs.declared.Value.TheVariants.{Unknown}
 use Rattle.valuation.specs.Three.{of_bool}
@@ -51,16 +51,7 @@ abbrev pub play_for : ℕ → Option Answer → List Value → List Value
 play_for below None play = play
 play_for below (Some a) play = play_by below a.outcome play
 
--- the marks after an outcome: the core of a no move
-abbrev pub marks_by : Outcome → List Bool → List Bool
-marks_by (moves setting) marks = marks
-marks_by (loses core) marks = core
-
-abbrev pub marks_for : Option Answer → List Bool → List Bool
-marks_for None marks = marks
-marks_for (Some a) marks = marks_by a.outcome marks
-
--- the same at the front of a longer list
+-- the marks after an outcome: the core of a no move at their front
 abbrev pub marks_in : Outcome → List Bool → List Bool
 marks_in (moves setting) marks = marks
 marks_in (loses core) marks = with_part 0 core marks

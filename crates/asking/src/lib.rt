@@ -3,7 +3,7 @@
 // Callers are proved to meet what is required, and no test of it is run.
 #![tactic(auto)]
 
-ghost use Rattle.std.specs.Prelude.{◌≡◌, ◌+◌, ◌-◌, ◌*◌, ◌/◌, ◌<◌, ◌≤◌, false, ◌++◌, length, take, drop, replicate};
+ghost use Rattle.std.specs.Prelude.{◌≡◌, ◌+◌, ◌/◌, ◌<◌, ◌≤◌, false, length, take, replicate};
 ghost use Rattle.circuit.specs.Gates.{pairs};
 ghost use Rattle.question.specs.Blocks.{total};
 ghost use Rattle.valuation.specs.declared.Value.TheVariants.{Unknown};
@@ -12,92 +12,55 @@ ghost use Rattle.runs.specs.State.{before as variables_before};
 ghost use Rattle.runs.specs.State.{width as block_width};
 ghost use Rattle.copying.specs.Places.{none};
 ghost use Rattle.copying.specs.Table.{BlankFrom};
-ghost use Rattle.runs.specs.Turn.{values_under, cut_list};
+ghost use Rattle.runs.specs.Turn.{cut_list};
 ghost use Rattle.runs.specs.Calls.{RightReply};
-ghost use Rattle.asking.specs.Asked.{asked_of, reply_at, reply_for, play_for, marks_for, marks_over, Fit, Zero};
+ghost use Rattle.asking.specs.Asked.{asked_of, reply_at, reply_for, play_for, marks_over, Fit, Zero};
 ghost use Rattle.asking.specs.Lost.{settle_answer, settle_table};
 
-use circuit::reaching::{force_marked, mark_reached};
-use circuit::walking::{set_inputs, walk};
-use circuit::{Gate, Literal};
+use circuit::reaching::force_marked;
+use circuit::{Circuit, Gate, Literal};
 use copying::places::Copies;
 use copying::{Bounds, Full, Lost, Settled, settle};
 use question::Block;
 use search::{Ask, Reply, Searcher};
 use valuation::Value;
 
-// Clears the entries from `from` to `used`, where those from `used` on are clear.
-pub fn clear_from<T: Copy>(cells: &mut [T], from: usize, used: usize, blank: T)
-    requires order { from ≤ used }
-    requires room { used ≤ length cells.old }
-    requires clear { drop used cells.old ≡ replicate (length cells.old - used) blank }
-    ensures { cells.new ≡ take from cells.old ++ replicate (length cells.old - from) blank }
-{
-    for k in from..used {
-        cells[k] = blank;
-    }
-}
-
 // How many variables the first blocks have.
 pub fn before(blocks: &[Block], depth: usize) -> usize
     requires { total blocks.now ≤ 128 }
     ensures { result ≡ variables_before blocks.now depth }
 {
-    let mut sum = 0;
-    for block in &blocks[0..depth.min(blocks.len())] {
-        sum += block.size;
-    }
-    sum
+    blocks.iter().take(depth).map(|block| block.size).sum()
 }
 
 // How many variables a block has, counted from 0: none past the last.
 pub fn width(blocks: &[Block], depth: usize) -> usize
     ensures { result ≡ block_width blocks.now depth }
 {
-    match blocks.get(depth) {
-        Some(block) => block.size,
-        None => 0,
-    }
-}
-
-// Works out the values of all nodes under a play. `unforced` is a list of unknowns.
-pub fn work_out(
-    gates: &[Gate],
-    first: usize,
-    play: &[Value],
-    unforced: &[Value],
-    values: &mut [Value],
-)
-    requires ascending { Ascending first (pairs gates.now) }
-    requires unforced { unforced.now ≡ replicate (first + length gates.now) Unknown }
-    requires values { length values.old ≡ first + length gates.now }
-    ensures { values.new ≡ values_under first (pairs gates.now) play.now }
-{
-    set_inputs(unforced, 1, play, &mut values[0..first]);
-    walk(gates, unforced, first, values);
+    blocks.get(depth).map_or(0, |block| block.size)
 }
 
 // Forces the cut of a root under a play: of the nodes that it reaches those that are known, but for node 0. Lists by node; the forced
 // values and the marks are zero before, and the marks after, too.
+// The lists are no struct of `&mut`s here and below: a clause would name each by its place, as `work.exit.1.0`, and who lends parts of its
+// lists in one would learn nothing of them.
 fn force_cut(
-    gates: &[Gate],
-    first: usize,
+    circuit: Circuit<'_>,
     root: Literal,
     play: &[Value],
     values: &mut [Value],
     forced: &mut [Value],
     marks: &mut [bool],
 )
-    requires ascending { Ascending first (pairs gates.now) }
-    requires inside { root.code / 2 < first + length gates.now }
-    requires values { length values.old ≡ first + length gates.now }
-    requires forced { forced.old ≡ replicate (first + length gates.now) Unknown }
-    requires marks { marks.old ≡ replicate (first + length gates.now) false }
-    ensures forced { forced.new ≡ cut_list first (pairs gates.now) root.code play.now }
+    requires inside { root.code / 2 < circuit.first + length circuit.gates.now }
+    requires values { length values.old ≡ circuit.first + length circuit.gates.now }
+    requires forced { forced.old ≡ replicate (circuit.first + length circuit.gates.now) Unknown }
+    requires marks { marks.old ≡ replicate (circuit.first + length circuit.gates.now) false }
+    ensures forced { forced.new ≡ cut_list circuit.entry.first (pairs circuit.entry.gates.now) root.code play.now }
     ensures marks { marks.new ≡ marks.old }
 {
-    work_out(gates, first, play, forced, values);
-    mark_reached(gates, values, first, root, marks);
+    circuit.work_out(play, forced, values);
+    circuit.mark_reached(values, root, marks);
     force_marked(values, marks, forced);
 }
 
@@ -112,47 +75,8 @@ pub struct Level {
     pub allowance: u64,
 }
 
-// Asks the searcher at a level, under the play below it. Work lists by node, zero before and after, but that the marks have the core of a
-// no move.
-fn ask_nodes<S: Searcher>(
-    searcher: &mut S,
-    level: Level,
-    gates: &[Gate],
-    play: &mut [Value],
-    values: &mut [Value],
-    forced: &mut [Value],
-    marks: &mut [bool],
-) -> Reply
-    requires fit { Fit level gates.now play.old }
-    requires values { values.old ≡ replicate (1 + level.variables + length gates.now) Unknown }
-    requires forced { forced.old ≡ replicate (1 + level.variables + length gates.now) Unknown }
-    requires marks { marks.old ≡ replicate (1 + level.variables + length gates.now) false }
-    ensures same { S.Searcher.meaning searcher.new ≡ S.Searcher.meaning searcher.old }
-    ensures right { RightReply (asked_of level gates.now play.old) level.allowance (reply_at (S.Searcher.meaning searcher.old) level gates.now play.old) }
-    ensures reply { result ≡ reply_for (reply_at (S.Searcher.meaning searcher.old) level gates.now play.old) }
-    ensures play { play.new ≡ play_for level.below (reply_at (S.Searcher.meaning searcher.old) level gates.now play.old) play.old }
-    ensures marks { marks.new ≡ marks_for (reply_at (S.Searcher.meaning searcher.old) level gates.now play.old) marks.old }
-    ensures values { values.new ≡ values.old }
-    ensures forced { forced.new ≡ forced.old }
-{
-    let first = 1 + level.variables;
-    force_cut(gates, first, level.root, play, values, forced, marks);
-    let ask = Ask {
-        variables: level.variables,
-        gates,
-        root: level.root,
-        start: 1 + level.below,
-        allowance: level.allowance,
-    };
-    let below = level.below;
-    let end = below + level.free;
-    let reply = searcher.query(ask, forced, &mut play[below..end], marks);
-    values.fill(Value::Unknown);
-    forced.fill(Value::Unknown);
-    reply
-}
-
-// The same over whole lists, of which only the entries of nodes are used.
+// Asks the searcher at a level, under the play below it. Of the work lists only the entries of nodes are used; they are zero before and after,
+// but that the marks have the core of a no move.
 pub fn ask_level<S: Searcher>(
     searcher: &mut S,
     level: Level,
@@ -174,19 +98,32 @@ pub fn ask_level<S: Searcher>(
     ensures values { values.new ≡ values.old }
     ensures forced { forced.new ≡ forced.old }
 {
-    let nodes = 1 + level.variables + gates.len();
-    ask_nodes(
-        searcher,
-        level,
+    let circuit = Circuit {
+        first: 1 + level.variables,
         gates,
-        play,
-        &mut values[0..nodes],
-        &mut forced[0..nodes],
-        &mut marks[0..nodes],
-    )
+    };
+    let nodes = circuit.nodes();
+    let values = &mut values[..nodes];
+    let forced = &mut forced[..nodes];
+    let marks = &mut marks[..nodes];
+    force_cut(circuit, level.root, play, values, forced, marks);
+    let ask = Ask {
+        variables: level.variables,
+        gates,
+        root: level.root,
+        start: 1 + level.below,
+        allowance: level.allowance,
+    };
+    let below = level.below;
+    let end = below + level.free;
+    let reply = searcher.query(ask, forced, &mut play[below..end], marks);
+    values.fill(Value::Unknown);
+    forced.fill(Value::Unknown);
+    reply
 }
 
 // A lost level: the marks of its core, the play below it, the bounds of its block and of the one below it, and the root to be replaced.
+// `copying::Lost` has the nodes' values beside these: whoever hands over a loss does not have them, since settling works them out.
 #[derive(Clone, Copy)]
 pub struct Loss<'a> {
     pub core: &'a [bool],
@@ -221,22 +158,21 @@ pub fn settle_level(
     ensures values { values.new ≡ values.old }
     ensures copies { copies.new ≡ copies.old }
 {
-    let nodes = first + used;
-    work_out(
-        &gates[0..used],
+    let circuit = Circuit {
         first,
-        loss.play,
-        &unforced[0..nodes],
-        &mut values[0..nodes],
-    );
+        gates: &gates[..used],
+    };
+    let nodes = circuit.nodes();
+    let values = &mut values[..nodes];
+    circuit.work_out(loss.play, &unforced[..nodes], values);
     let lost = Lost {
         core: loss.core,
-        values: &values[0..nodes],
+        values,
         play: loss.play,
         bounds: loss.bounds,
         root: loss.root,
     };
     let settled = settle(gates, used, first, lost, copies);
-    values[0..nodes].fill(Value::Unknown);
+    values.fill(Value::Unknown);
     settled
 }

@@ -63,21 +63,21 @@ inside_block f d = omega (arith, before_suc (blocks_of f.prefix) d, before_total
 
 -- with its own tables, a bench that has a ticket out may ask
 pub ready : (f : Frame) (d : Desk) (g : GateTable) (l : Lists) → own (state_of f d (gate_sheet g) (sheets_of l)) ≡ true → d.phase ≡ Playing →
-    ((j : ℕ) → root_at d j / 2 < first_node (blocks_of f.prefix) + d.gates) → Ready (level_of f d) g l.play l.values l.forced l.marks
+    ((j : ℕ) → root_at d j / 2 < first_node (blocks_of f.prefix) + d.gates) → Ready (level_of f d) g l
 ready f d g l h playing rooted =
     let o = owned (state_of f d (gate_sheet g) (sheets_of l)) h in
     let r = o.room in
-    let n = length-map (vec_items g.gates) pair in
+    let n = length-map (vec_items g.table.entries) pair in
     record {
       variables = few_variables f;
       first = o.first;
       rooted = omega (arith, rooted (suc d.depth), o.first, o.used);
       inside = inside_block f d.depth;
       few_free = small_block f d.depth;
-      play = omega (arith, r.play, l.play.values.ok.0);
+      play = omega (arith, r.play, l.play.entries.ok.0);
       set = o.played;
-      values = omega (arith, r.values, n, g.room, o.first, g.gates.ok.0, l.values.values.ok.0);
-      forced = omega (arith, r.forced, n, g.room, o.first, g.gates.ok.0, l.forced.values.ok.0);
-      marks = omega (arith, r.marks, n, g.room, o.first, g.gates.ok.0, l.marks.marks.ok.0);
+      values = omega (arith, r.values, n, g.table.room, o.first, g.table.entries.ok.0, l.values.entries.ok.0);
+      forced = omega (arith, r.forced, n, g.table.room, o.first, g.table.entries.ok.0, l.forced.entries.ok.0);
+      marks = omega (arith, r.marks, n, g.table.room, o.first, g.table.entries.ok.0, l.marks.entries.ok.0);
       shown = o.shown ∙ ap (λ p. state.shown p (first_node (blocks_of f.prefix) + d.gates)) playing;
     }

@@ -4,14 +4,28 @@ use Rattle.std.proofs.lemmas.List.{length-map, drop-drop, drop-replicate}
 use Rattle.valuation.specs.declared.Value.{Value}
 use Rattle.valuation.specs.declared.Value.TheVariants.{Unknown}
 use Rattle.valuation.specs.Three.{of_bool}
+use Rattle.search.specs.declared.Reply.{Reply}
+use Rattle.search.specs.declared.Reply.TheVariants.{Move, NoMove, Spent}
 use Rattle.search.specs.Queries.{Query, nodes}
 use Rattle.search.specs.Answers.{Outcome, moves, loses, Answer, Right}
+use Rattle.copying.specs.declared.places.Copies.{Copies}
 use Rattle.asking.specs.Asked.{reply_for, play_for, marks_over}
-use Rattle.runs.specs.State.{Sheet}
-use Rattle.runs.specs.Turn.{with_part}
+use Rattle.runs.specs.State.{Sheet, Sheets}
+use Rattle.runs.specs.Turn.{with_part, played, marked_by, answer_sheets}
 use Rattle.runs.specs.Calls.{RightReply}
 use Rattle.runs.proofs.Shape.{length_part, drop_part}
-use Rattle.bench.specs.Turning.{move_or_zero, no_move_or_zero, play_reply, marks_reply}
+use Rattle.bench.specs.Turning.{move_or_zero, no_move_or_zero, sheets_after}
+
+-- no more than the number
+pub move_le : (r : Reply) (n : ℕ) → move_or_zero r n ≤ n
+move_le (Move need) n = omega arith
+move_le (NoMove need) n = omega arith
+move_le Spent n = omega arith
+
+pub no_move_le : (r : Reply) (n : ℕ) → no_move_or_zero r n ≤ n
+no_move_le (Move need) n = omega arith
+no_move_le (NoMove need) n = omega arith
+no_move_le Spent n = omega arith
 
 -- the rest of a list that is clear from a place on, n entries later
 pub later : {X : Type 0} (x : X) (a n k : ℕ) (xs : List X) → drop a xs ≡ replicate (length xs - a) x → k ≡ a + n → drop k xs ≡ replicate (length xs - k) x
@@ -21,6 +35,41 @@ later x a n k xs e f =
 -- a table with this many entries in use
 abbrev pub table : {X : Type 0} → Option ℕ → ℕ → List X → Sheet X
 table b used xs = record { bound = b; used = used; entries = xs }
+
+-- the play after an outcome, and after a reply
+abbrev pub play_outcome : ℕ → Outcome → Sheet Value → Sheet Value
+play_outcome below (moves setting) t = played below setting t
+play_outcome below (loses core) t = t
+
+abbrev pub play_reply : ℕ → Option Answer → Sheet Value → Sheet Value
+play_reply below None t = t
+play_reply below (Some a) t = play_outcome below a.outcome t
+
+-- the marks after an outcome, and after a reply
+abbrev pub marks_outcome : Outcome → Sheet Bool → Sheet Bool
+marks_outcome (moves setting) t = t
+marks_outcome (loses core) t = marked_by core t
+
+abbrev pub marks_reply : Option Answer → Sheet Bool → Sheet Bool
+marks_reply None t = t
+marks_reply (Some a) t = marks_outcome a.outcome t
+
+-- tables by their parts
+parts : (p p' v v' f f' : Sheet Value) (m m' : Sheet Bool) (k : Sheet Copies) → p ≡ p' → v ≡ v' → f ≡ f' → m ≡ m' →
+    ◌≡◌ {A = Sheets} (record { play = p; values = v; forced = f; marks = m; copies = k }) (record { play = p'; values = v'; forced = f'; marks = m'; copies = k })
+parts p p' v v' f f' m m' k a b c d = cc
+
+-- the tables after a reply, by their parts
+pub sheets_by : (below : ℕ) (r : Option Answer) (t : Sheets) (play values forced : Sheet Value) (marks : Sheet Bool) →
+    play ≡ play_reply below r t.play → values ≡ t.values → forced ≡ t.forced → marks ≡ marks_reply r t.marks →
+    (record { play = play; values = values; forced = forced; marks = marks; copies = t.copies }) ≡ sheets_after below r t
+sheets_by below None t play values forced marks p v f m = parts play t.play values t.values forced t.forced marks t.marks t.copies p v f m
+sheets_by below (Some a) t play values forced marks p v f m = by a.outcome p m
+  where
+    by : (o : Outcome) → play ≡ play_outcome below o t.play → marks ≡ marks_outcome o t.marks →
+        (record { play = play; values = values; forced = forced; marks = marks; copies = t.copies }) ≡ answer_sheets below o t
+    by (moves x) p m = cc
+    by (loses x) p m = cc
 
 -- The play after a reply: how much of it may be set, that the rest is not, and the table.
 pub record Played (below free set : ℕ) (b : Option ℕ) (r : Option Answer) (xs : List Value) : Type 0 where

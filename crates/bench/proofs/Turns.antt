@@ -1,9 +1,8 @@
 -- What a turn makes of a reply. Assumes nothing.
-use Rattle.std.proofs.Common.{◌≡◌, ℕ, suc, ◌≤◌, Bool, true, ◌&&◌, List, length, Some, None, Ok, Err, vec_items, Option, sym, refl, ap, ◌∙◌, subst, ap₂}
+use Rattle.std.proofs.Common.{◌≡◌, ℕ, suc, ◌≤◌, true, ◌&&◌, List, length, Some, None, Ok, Err, vec_items, Option, sym, refl, ap, ◌∙◌, subst, ap₂}
 use Rattle.std.proofs.lemmas.List.{take-map}
 use Rattle.std.proofs.lemmas.Bool.{and_from, cond-true}
 use Rattle.circuit.specs.Gates.{pair}
-use Rattle.valuation.specs.declared.Value.{Value}
 use Rattle.valuation.specs.Circuit.{Pair}
 use Rattle.question.specs.declared.frame.Frame.{Frame}
 use Rattle.question.specs.Blocks.{total}
@@ -21,15 +20,15 @@ use Rattle.runs.specs.declared.Stub.{Stub}
 use Rattle.runs.specs.declared.Refusal.TheVariants as refusal
 use Rattle.runs.specs.Refusals.{answered, unless}
 use Rattle.runs.specs.Papers.{stub_of, ticket_present}
-use Rattle.runs.specs.State.{Sheet, Sheets, State, before, width, root_at, own}
-use Rattle.runs.specs.Turn.{level_query, query_of, within, reply_by, paid, answer_desk, answer_sheets, spent_by, after_reply, turn_refusal, turned}
+use Rattle.runs.specs.State.{Sheets, State, before, width, root_at, own}
+use Rattle.runs.specs.Turn.{level_query, query_of, within, reply_by, paid, answer_desk, spent_by, after_reply, turn_refusal, turned}
 use Rattle.runs.specs.Calls.{RightReply}
 use Rattle.bench.proofs.Owned.{owned}
 use Rattle.bench.specs.declared.GateTable.{GateTable}
 use Rattle.bench.specs.declared.Lists.{Lists}
 use Rattle.bench.specs.declared.Ticket.{Ticket}
 use Rattle.bench.specs.Model.{gate_sheet, sheets_of, state_of}
-use Rattle.bench.specs.Turning.{level_of, asked_over, reply_over, play_outcome, play_reply, marks_outcome, marks_reply, paper_of}
+use Rattle.bench.specs.Turning.{level_of, asked_over, reply_over, sheets_after, paper_of}
 
 -- a bench's numbers after a reply
 abbrev pub reply_desk : Option Answer → Desk → Desk
@@ -91,32 +90,17 @@ module _ (p : Stub) (s : State) (present : ticket_present s.desk p ≡ true) (mi
             refusal = refusal_is (Some a);
           }
 
-  -- the bench and the tables after a reply, by their parts
-  abbrev pub with_parts : Desk → Sheet Value → Sheet Value → Sheet Value → Sheet Bool → State
-  with_parts d play values forced marks =
-      record { blocks = s.blocks; count = s.count; output = s.output; desk = d; gates = s.gates; sheets = record { play = play; values = values; forced = forced; marks = marks; copies = s.sheets.copies } }
+  -- a bench with these numbers and tables
+  abbrev pub with_parts : Desk → Sheets → State
+  with_parts d t = record { blocks = s.blocks; count = s.count; output = s.output; desk = d; gates = s.gates; sheets = t }
 
-  -- the tables after an outcome
-  tables_are : (o : Outcome) (below : ℕ) → (record { play = play_outcome below o s.sheets.play; values = s.sheets.values; forced = s.sheets.forced; marks = marks_outcome o s.sheets.marks; copies = s.sheets.copies }) ≡ answer_sheets below o s.sheets
-  tables_are (moves x) below = refl
-  tables_are (loses x) below = refl
-
-  pub turned_is : (r : Option Answer) → with_parts (reply_desk r s.desk) (play_reply (before s.blocks s.desk.depth) r s.sheets.play) s.sheets.values s.sheets.forced (marks_reply r s.sheets.marks) ≡ turned p r s
+  pub turned_is : (r : Option Answer) → with_parts (reply_desk r s.desk) (sheets_after (before s.blocks s.desk.depth) r s.sheets) ≡ turned p r s
   turned_is None = sym (ap (λ x. unless x s s) (refusal_is None))
-  turned_is (Some a) =
-      ap (λ (t : Sheets). record { blocks = s.blocks; count = s.count; output = s.output; desk = reply_desk (Some a) s.desk; gates = s.gates; sheets = t }) (tables_are a.outcome (before s.blocks s.desk.depth))
-      ∙ sym (ap (λ x. unless x s (after_reply (Some a) s)) (refusal_is (Some a)))
+  turned_is (Some a) = sym (ap (λ x. unless x s (after_reply (Some a) s)) (refusal_is (Some a)))
 
-  -- the bench and the tables after a reply, where they are these parts
-  pub after_is : (r : Option Answer) (d : Desk) (play values forced : Sheet Value) (marks : Sheet Bool) → d ≡ reply_desk r s.desk → play ≡ play_reply (before s.blocks s.desk.depth) r s.sheets.play →
-      values ≡ s.sheets.values → forced ≡ s.sheets.forced → marks ≡ marks_reply r s.sheets.marks → with_parts d play values forced marks ≡ turned p r s
-  after_is r d play values forced marks desk_is play_is values_is forced_is marks_is =
-      ap (λ x. with_parts x play values forced marks) desk_is
-      ∙ ap (λ x. with_parts (reply_desk r s.desk) x values forced marks) play_is
-      ∙ ap (λ x. with_parts (reply_desk r s.desk) (play_reply (before s.blocks s.desk.depth) r s.sheets.play) x forced marks) values_is
-      ∙ ap (λ x. with_parts (reply_desk r s.desk) (play_reply (before s.blocks s.desk.depth) r s.sheets.play) s.sheets.values x marks) forced_is
-      ∙ ap (λ x. with_parts (reply_desk r s.desk) (play_reply (before s.blocks s.desk.depth) r s.sheets.play) s.sheets.values s.sheets.forced x) marks_is
-      ∙ turned_is r
+  -- the bench and the tables after a reply, where they are these
+  pub after_is : (r : Option Answer) (d : Desk) (t : Sheets) → d ≡ reply_desk r s.desk → t ≡ sheets_after (before s.blocks s.desk.depth) r s.sheets → with_parts d t ≡ turned p r s
+  after_is r d t desk_is sheets_is = ap₂ with_parts desk_is sheets_is ∙ turned_is r
 
   -- an accepted turn leaves the paper of its numbers
   pub answer_is : (r : Option Answer) (need : ℕ) (d : Desk) (t : Ticket) → Accepted p s r need d →
@@ -126,7 +110,7 @@ module _ (p : Stub) (s : State) (present : ticket_present s.desk p ≡ true) (mi
       ∙ ap (λ x. answered x t (paper_of (turned p r s).desk.phase (stub_of (turned p r s).desk))) (sym a.refusal)
 
   -- a spent turn gives the ticket back
-  pub spent_answer : (r : Option Answer) (t : Ticket) → r ≡ None → Err (refusal.Spent, t) ≡ answered (turn_refusal p r s) t (paper_of (turned p r s).desk.phase (stub_of (turned p r s).desk))
+  pub spent_answer : (r : Option Answer) (t : Ticket) → r ≡ None → Err (record { refusal = refusal.Spent; paper = t }) ≡ answered (turn_refusal p r s) t (paper_of (turned p r s).desk.phase (stub_of (turned p r s).desk))
   spent_answer r t none = sym (ap (λ x. answered x t (paper_of (turned p r s).desk.phase (stub_of (turned p r s).desk))) (refusal_is r ∙ ap spent_by none))
 
 -- the reply over the tables is the one of the definition, and right
@@ -135,32 +119,32 @@ module _ (m : Query → Answer) (f : Frame) (d : Desk) (g : GateTable) (l : List
   s = state_of f d (gate_sheet g) (sheets_of l)
 
   abbrev by_gates : List Pair → Query
-  by_gates gs = level_query (total (blocks_of f.prefix)) gs (root_at d (suc d.depth)) (vec_items l.play.values) (before (blocks_of f.prefix) d.depth) (width (blocks_of f.prefix) d.depth)
+  by_gates gs = level_query (total (blocks_of f.prefix)) gs (root_at d (suc d.depth)) (vec_items l.play.entries) (before (blocks_of f.prefix) d.depth) (width (blocks_of f.prefix) d.depth)
 
-  pub reply_is : reply_over m (level_of f d) g l.play ≡ reply_by m s
-  reply_is = ap (λ gs. within d.purse (m (by_gates gs))) (sym (take-map pair g.used (vec_items g.gates)))
+  pub reply_is : reply_over m (level_of f d) g l ≡ reply_by m s
+  reply_is = ap (λ gs. within d.purse (m (by_gates gs))) (sym (take-map pair g.table.used (vec_items g.table.entries)))
 
-  pub right_is : RightReply (asked_over (level_of f d) g l.play) d.purse (reply_over m (level_of f d) g l.play) → RightReply (query_of s) d.purse (reply_by m s)
-  right_is = subst (λ (gs : List Pair). RightReply (by_gates gs) d.purse (within d.purse (m (by_gates gs)))) (sym (take-map pair g.used (vec_items g.gates)))
+  pub right_is : RightReply (asked_over (level_of f d) g l) d.purse (reply_over m (level_of f d) g l) → RightReply (query_of s) d.purse (reply_by m s)
+  right_is = subst (λ (gs : List Pair). RightReply (by_gates gs) d.purse (within d.purse (m (by_gates gs)))) (sym (take-map pair g.table.used (vec_items g.table.entries)))
 
 -- What a turn knows once it has asked: the ticket is present and the tables are the bench's own, at the level k the searcher gave this reply, and it is right.
 pub record Asked (m : Query → Answer) (f : Frame) (d : Desk) (g : GateTable) (l : Lists) (p : Stub) (k : Level) (reply : Reply) : Type 0 where
   pub present : ticket_present d p ≡ true
   pub mine : own (state_of f d (gate_sheet g) (sheets_of l)) ≡ true
   pub level : k ≡ level_of f d
-  pub right : RightReply (asked_over k g l.play) k.allowance (reply_over m k g l.play)
-  pub reply_is : reply ≡ reply_for (reply_over m k g l.play)
+  pub right : RightReply (asked_over k g l) k.allowance (reply_over m k g l)
+  pub reply_is : reply ≡ reply_for (reply_over m k g l)
 
 -- What becomes of it: the reply by the definition, and the play and the marks after it.
 module _ (m : Query → Answer) (f : Frame) (d : Desk) (g : GateTable) (l : Lists) (p : Stub) (k : Level) (reply : Reply) (a : Asked m f d g l p k reply) where
   abbrev at : State
   at = state_of f d (gate_sheet g) (sheets_of l)
 
-  pub here_is : reply_over m k g l.play ≡ reply_by m at
-  here_is = ap (λ (j : Level). reply_over m j g l.play) a.level ∙ reply_is m f d g l
+  pub here_is : reply_over m k g l ≡ reply_by m at
+  here_is = ap (λ (j : Level). reply_over m j g l) a.level ∙ reply_is m f d g l
 
   right_here : RightReply (query_of at) d.purse (reply_by m at)
-  right_here = right_is m f d g l (subst (λ (j : Level). RightReply (asked_over j g l.play) j.allowance (reply_over m j g l.play)) a.level a.right)
+  right_here = right_is m f d g l (subst (λ (j : Level). RightReply (asked_over j g l) j.allowance (reply_over m j g l)) a.level a.right)
 
   replied : reply_for (reply_by m at) ≡ reply
   replied = sym (a.reply_is ∙ ap reply_for here_is)
@@ -175,7 +159,7 @@ module _ (m : Query → Answer) (f : Frame) (d : Desk) (g : GateTable) (l : List
   no_answer e = spent_is p at a.present a.mine (reply_by m at) (replied ∙ e)
 
   -- a spent turn gives the ticket back
-  pub ticket_back : reply ≡ Spent → (t : Ticket) → Err (refusal.Spent, t) ≡ answered (turn_refusal p (reply_by m at) at) t (paper_of (turned p (reply_by m at) at).desk.phase (stub_of (turned p (reply_by m at) at).desk))
+  pub ticket_back : reply ≡ Spent → (t : Ticket) → Err (record { refusal = refusal.Spent; paper = t }) ≡ answered (turn_refusal p (reply_by m at) at) t (paper_of (turned p (reply_by m at) at).desk.phase (stub_of (turned p (reply_by m at) at).desk))
   ticket_back e t = spent_answer p at a.present a.mine (reply_by m at) t (no_answer e)
 
   -- the bench is at the level of a block, or past the last
@@ -183,8 +167,7 @@ module _ (m : Query → Answer) (f : Frame) (d : Desk) (g : GateTable) (l : List
   inside = (owned at a.mine).level
 
   -- the bench and the tables after the reply, where the searcher left these tables and the numbers are d'
-  pub after_asking : (d' : Desk) (play values forced : Sheet Value) (marks : Sheet Bool) → d' ≡ reply_desk (reply_by m at) d → play ≡ play_reply k.below (reply_over m k g l.play) at.sheets.play →
-      values ≡ at.sheets.values → forced ≡ at.sheets.forced → marks ≡ marks_reply (reply_over m k g l.play) at.sheets.marks → with_parts p at a.present a.mine d' play values forced marks ≡ turned p (reply_by m at) at
-  after_asking d' play values forced marks desk_is play_is values_is forced_is marks_is =
-      after_is p at a.present a.mine (reply_by m at) d' play values forced marks desk_is
-      (play_is ∙ ap₂ (λ n r. play_reply n r at.sheets.play) (ap (λ (j : Level). j.below) a.level) here_is) values_is forced_is (marks_is ∙ ap (λ r. marks_reply r at.sheets.marks) here_is)
+  pub after_asking : (d' : Desk) (t : Sheets) → d' ≡ reply_desk (reply_by m at) d → t ≡ sheets_after k.below (reply_over m k g l) at.sheets →
+      with_parts p at a.present a.mine d' t ≡ turned p (reply_by m at) at
+  after_asking d' t desk_is sheets_is =
+      after_is p at a.present a.mine (reply_by m at) d' t desk_is (sheets_is ∙ ap₂ (λ n r. sheets_after n r at.sheets) (ap (λ (j : Level). j.below) a.level) here_is)

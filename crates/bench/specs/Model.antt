@@ -1,39 +1,30 @@
 -- What a bench and its tables stand for: ghost fields and a list's place in memory are left out.
-use Rattle.std.specs.Prelude.{ℕ, Bool, false, replicate, None, vec_items}
-use Rattle.valuation.specs.declared.Value.{Value}
+use Rattle.std.specs.Prelude.{ℕ, ◌-◌, false, ◌++◌, length, take, replicate, None, vec_items}
 use Rattle.valuation.specs.declared.Value.TheVariants.{Unknown}
 use Rattle.circuit.specs.Gates.{pairs}
-use Rattle.copying.specs.declared.places.Copies.{Copies}
 use Rattle.copying.specs.Places.{none}
 use Rattle.question.specs.declared.frame.Frame.{Frame}
 use Rattle.question.specs.Rules.{blocks_of}
 use Rattle.runs.specs.declared.Desk.{Desk}
 use Rattle.runs.specs.State.{GateSheet, Sheet, Sheets, State}
 use Rattle.bench.specs.declared.GateTable.{GateTable}
-use Rattle.bench.specs.declared.Play.{Play}
-use Rattle.bench.specs.declared.ValueList.{ValueList}
-use Rattle.bench.specs.declared.Marks.{Marks}
-use Rattle.bench.specs.declared.CopyList.{CopyList}
+use Rattle.bench.specs.declared.Table.{Table}
 use Rattle.bench.specs.declared.Lists.{Lists}
 use Rattle.bench.specs.declared.Bench.{Bench}
 
+-- a table's bound, its entries and how many of them are in use
+abbrev pub sheet_of : {X : Type 0} {most : ℕ} {b : _} → Table X most b → Sheet X
+sheet_of t = record { bound = t.bound; used = t.used; entries = vec_items t.entries }
+
 abbrev pub gate_sheet : GateTable → GateSheet
-gate_sheet g = record { bound = g.bound; first = g.first; used = g.used; entries = pairs (vec_items g.gates) }
-
-abbrev pub play_sheet : Play → Sheet Value
-play_sheet p = record { bound = p.bound; used = p.set; entries = vec_items p.values }
-
-abbrev pub value_sheet : ValueList → Sheet Value
-value_sheet l = record { bound = l.bound; used = 0; entries = vec_items l.values }
-
-abbrev pub mark_sheet : Marks → Sheet Bool
-mark_sheet m = record { bound = m.bound; used = m.shown; entries = vec_items m.marks }
-
-abbrev pub copy_sheet : CopyList → Sheet Copies
-copy_sheet l = record { bound = l.bound; used = 0; entries = vec_items l.copies }
+gate_sheet g = record { bound = g.table.bound; first = g.first; used = g.table.used; entries = pairs (vec_items g.table.entries) }
 
 abbrev pub sheets_of : Lists → Sheets
-sheets_of t = record { play = play_sheet t.play; values = value_sheet t.values; forced = value_sheet t.forced; marks = mark_sheet t.marks; copies = copy_sheet t.copies }
+sheets_of t = record { play = sheet_of t.play; values = sheet_of t.values; forced = sheet_of t.forced; marks = sheet_of t.marks; copies = sheet_of t.copies }
+
+-- the entries from a place on out of use
+abbrev pub cut_to : {X : Type 0} → X → ℕ → Sheet X → Sheet X
+cut_to zero n t = record { bound = t.bound; used = n; entries = take n t.entries ++ replicate (length t.entries - n) zero }
 
 -- a table that is free, with so many zeros
 abbrev pub new_sheet : {X : Type 0} → X → ℕ → Sheet X

@@ -1,28 +1,25 @@
 -- What a turn asks, what it needs of the tables, and what it answers.
-use Rattle.std.specs.Prelude.{◌≡◌, ℕ, suc, ◌+◌, ◌/◌, ◌<◌, ◌≤◌, Bool, take, Some, None, vec_items, vec_len, Option, Result, slice_index_or}
-use Rattle.valuation.specs.declared.Value.{Value}
+use Rattle.std.specs.Prelude.{◌≡◌, ℕ, suc, ◌+◌, ◌/◌, ◌<◌, ◌≤◌, take, Some, None, vec_items, vec_len, Option, Result, slice_index_or}
 use Rattle.question.specs.declared.frame.Frame.{Frame}
 use Rattle.question.specs.Blocks.{total}
 use Rattle.question.specs.Rules.{blocks_of}
 use Rattle.search.specs.declared.Reply.{Reply}
 use Rattle.search.specs.declared.Reply.TheVariants.{Move, NoMove, Spent}
 use Rattle.search.specs.Queries.{Query}
-use Rattle.search.specs.Answers.{Outcome, moves, loses, Answer}
+use Rattle.search.specs.Answers.{Answer}
 use Rattle.asking.specs.declared.Level.{Level}
 use Rattle.asking.specs.Asked.{asked_of, reply_at}
 use Rattle.runs.specs.declared.Phase.{Phase}
 use Rattle.runs.specs.declared.Phase.TheVariants.{Playing, Lost, Over}
 use Rattle.runs.specs.declared.Desk.{Desk}
 use Rattle.runs.specs.declared.Stub.{Stub}
-use Rattle.runs.specs.declared.Refusal.{Refusal}
+use Rattle.runs.specs.declared.Refused.{Refused}
 use Rattle.runs.specs.Refusals.{answered}
 use Rattle.runs.specs.Papers.{stub_of}
-use Rattle.runs.specs.State.{Sheet, State, before, width}
-use Rattle.runs.specs.Turn.{reply_by, played, marked_by, turn_refusal, turned}
+use Rattle.runs.specs.State.{Sheets, State, before, width}
+use Rattle.runs.specs.Turn.{reply_by, answer_sheets, turn_refusal, turned}
 use Rattle.bench.specs.declared.GateTable.{GateTable}
-use Rattle.bench.specs.declared.Play.{Play}
-use Rattle.bench.specs.declared.ValueList.{ValueList}
-use Rattle.bench.specs.declared.Marks.{Marks}
+use Rattle.bench.specs.declared.Lists.{Lists}
 use Rattle.bench.specs.declared.Ticket.{Ticket}
 use Rattle.bench.specs.declared.Turned.{Turned}
 use Rattle.bench.specs.declared.Turned.TheVariants as outcome
@@ -50,43 +47,30 @@ no_move_or_zero (NoMove need) n = n
 no_move_or_zero Spent n = 0
 
 -- A level that may ask, with its tables.
-pub record Ready (l : Level) (g : GateTable) (p : Play) (v f : ValueList) (m : Marks) : Type 0 where
+pub record Ready (l : Level) (g : GateTable) (t : Lists) : Type 0 where
   pub variables : l.variables ≤ 128
   pub first : g.first ≡ 1 + l.variables
-  pub rooted : l.root.code / 2 < g.first + g.used
+  pub rooted : l.root.code / 2 < g.first + g.table.used
   pub inside : l.below + l.free ≤ l.variables
   pub few_free : l.free ≤ 40
-  pub play : l.variables ≤ vec_len p.values
-  pub set : p.set ≡ l.below
-  pub values : g.first + g.used ≤ vec_len v.values
-  pub forced : g.first + g.used ≤ vec_len f.values
-  pub marks : g.first + g.used ≤ vec_len m.marks
-  pub shown : m.shown ≡ 0
+  pub play : l.variables ≤ vec_len t.play.entries
+  pub set : t.play.used ≡ l.below
+  pub values : g.first + g.table.used ≤ vec_len t.values.entries
+  pub forced : g.first + g.table.used ≤ vec_len t.forced.entries
+  pub marks : g.first + g.table.used ≤ vec_len t.marks.entries
+  pub shown : t.marks.used ≡ 0
 
 -- the query there, and the reply of a meaning
-abbrev pub asked_over : Level → GateTable → Play → Query
-asked_over l g p = asked_of l (take g.used (vec_items g.gates)) (vec_items p.values)
+abbrev pub asked_over : Level → GateTable → Lists → Query
+asked_over l g t = asked_of l (take g.table.used (vec_items g.table.entries)) (vec_items t.play.entries)
 
-abbrev pub reply_over : (Query → Answer) → Level → GateTable → Play → Option Answer
-reply_over m l g p = reply_at m l (take g.used (vec_items g.gates)) (vec_items p.values)
+abbrev pub reply_over : (Query → Answer) → Level → GateTable → Lists → Option Answer
+reply_over m l g t = reply_at m l (take g.table.used (vec_items g.table.entries)) (vec_items t.play.entries)
 
--- the play after an outcome
-abbrev pub play_outcome : ℕ → Outcome → Sheet Value → Sheet Value
-play_outcome below (moves setting) t = played below setting t
-play_outcome below (loses core) t = t
-
-abbrev pub play_reply : ℕ → Option Answer → Sheet Value → Sheet Value
-play_reply below None t = t
-play_reply below (Some a) t = play_outcome below a.outcome t
-
--- the marks after an outcome
-abbrev pub marks_outcome : Outcome → Sheet Bool → Sheet Bool
-marks_outcome (moves setting) t = t
-marks_outcome (loses core) t = marked_by core t
-
-abbrev pub marks_reply : Option Answer → Sheet Bool → Sheet Bool
-marks_reply None t = t
-marks_reply (Some a) t = marks_outcome a.outcome t
+-- the tables after a reply
+abbrev pub sheets_after : ℕ → Option Answer → Sheets → Sheets
+sheets_after below None t = t
+sheets_after below (Some a) t = answer_sheets below a.outcome t
 
 -- the paper that a turn leaves: a ticket after a move, a slip after a loss
 abbrev pub paper_of : Phase → Stub → Turned
@@ -95,7 +79,7 @@ paper_of Lost p = outcome.Lost (record { stub = p })
 paper_of Over p = outcome.Moved (record { stub = p })
 
 -- what a turn answers: a refusal with the ticket, or the next paper
-abbrev pub turn_answer : (Query → Answer) → Ticket → State → Result Turned (Refusal × Ticket)
+abbrev pub turn_answer : (Query → Answer) → Ticket → State → Result Turned (Refused Ticket)
 turn_answer m t s = answered (turn_refusal t.stub (reply_by m s) s) t (paper_of (turned t.stub (reply_by m s) s).desk.phase (stub_of (turned t.stub (reply_by m s) s).desk))
 
 -- the bench and the tables after it

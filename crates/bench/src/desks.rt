@@ -1,11 +1,22 @@
 // Papers, and a bench's numbers after each call.
 ghost use Rattle.std.specs.Prelude.{◌≡◌, ◌+◌, ◌-◌, ◌^◌, ◌<◌, ◌≤◌, length};
-ghost use Rattle.runs.specs.Papers.{carries, stub_of, ticket_present, slip_present};
+ghost use Rattle.runs.specs.declared.Phase.TheVariants.{Playing, Lost};
+ghost use Rattle.runs.specs.Papers.{stub_of, ticket_present, slip_present};
 ghost use Rattle.runs.specs.Turn.{paid as paid_desk};
 ghost use Rattle.runs.specs.Settle.{back_desk, over_desk};
 
+use super::Bench;
 use circuit::Literal;
 use runs::{Desk, Phase, Stub};
+
+impl<S> Bench<S> {
+    // The numbers of the run.
+    pub fn desk(&self) -> Desk
+        ensures { result ≡ self.now.desk }
+    {
+        self.desk
+    }
+}
 
 // What the present paper carries.
 pub(super) fn stub(desk: &Desk) -> Stub
@@ -18,31 +29,12 @@ pub(super) fn stub(desk: &Desk) -> Stub
     }
 }
 
-// Whether a paper carries the bench's numbers.
-fn agrees(desk: &Desk, stub: Stub) -> bool
-    ensures { result ≡ carries desk.now stub }
+// Whether a paper is the present one in a phase: a ticket while the bench is playing, a slip while it has lost.
+pub(super) fn is_present(desk: &Desk, paper: Stub, phase: Phase) -> bool
+    ensures ticket { phase ≡ Playing → result ≡ ticket_present desk.now paper }
+    ensures slip { phase ≡ Lost → result ≡ slip_present desk.now paper }
 {
-    stub.stamp == desk.stamp && stub.turns == desk.turns && stub.settlements == desk.settlements
-}
-
-// Whether a ticket is the present paper.
-pub(super) fn has_ticket(desk: &Desk, stub: Stub) -> bool
-    ensures { result ≡ ticket_present desk.now stub }
-{
-    match desk.phase {
-        Phase::Playing => agrees(desk, stub),
-        Phase::Lost | Phase::Over => false,
-    }
-}
-
-// Whether a slip is the present paper.
-pub(super) fn has_slip(desk: &Desk, stub: Stub) -> bool
-    ensures { result ≡ slip_present desk.now stub }
-{
-    match desk.phase {
-        Phase::Lost => agrees(desk, stub),
-        Phase::Playing | Phase::Over => false,
-    }
+    desk.phase == phase && paper == stub(desk)
 }
 
 // The numbers after a turn that was paid for.

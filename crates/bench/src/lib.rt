@@ -4,81 +4,71 @@
 // field cannot be imported by the file that declares it.
 #![tactic(auto)]
 
-ghost use Rattle.std.specs.Prelude.{◌≡◌, ℕ, ◌+◌, ◌-◌, ◌/◌, ◌<◌, ◌≤◌, false, length, take, drop, replicate, vec_len};
-ghost use Rattle.valuation.specs.declared.Value.TheVariants.{Unknown};
+ghost use Rattle.std.specs.Prelude.{◌≡◌, ℕ, ◌+◌, ◌-◌, ◌/◌, ◌<◌, ◌≤◌, length, take, drop, replicate, vec_len};
 ghost use Rattle.valuation.specs.Circuit.{Ascending};
-ghost use Rattle.circuit.specs.Gates.{empty, pairs};
-ghost use Rattle.copying.specs.Places.{none};
+ghost use Rattle.circuit.specs.Gates.{pairs};
 ghost use Rattle.question.specs.Rules.{blocks_of};
 ghost use Rattle.runs.specs.State.{first_node, root_at};
 ghost use Rattle.runs.specs.Papers.{owed};
 
+use blanks::Blank;
 use circuit::Gate;
 use copying::places::Copies;
 use question::{Frame, Question};
 use runs::{Desk, Refusal, Stub, Verdict};
 use valuation::Value;
 
+pub mod blanks;
 mod closing;
 mod desks;
 mod opening;
 mod settling;
 mod tables;
+#[cfg(test)]
+mod tests;
 mod turning;
 
-// The gates of a question and those that settlements make. It is bound to the stamp of an open bench.
+// The most variables, gates and nodes that there are.
+const VARIABLES: usize = 128;
+
+const GATES: usize = 8000;
+
+const NODES: usize = 1 + VARIABLES + GATES;
+
+// A table of entries, of which at most MOST are in use. It is bound to the stamp of an open bench.
 #[derive(Drop)]
-pub struct GateTable {
+pub struct Table<T: Blank, const MOST: usize> {
     bound: Option<u64>,
-    // the node of the first gate
-    first: usize,
-    // how many gates are in use; the entries after them are zero
+    // how many entries are in use; those after them are blank
     used: usize,
-    gates: Vec<Gate>,
-    ghost room: { used ≤ vec_len gates },
-    ghost few: { vec_len gates ≤ 8000 },
-    ghost some: { 1 ≤ first },
-    ghost low: { first ≤ 129 },
-    ghost ascending: { Ascending first (take used (pairs gates.items)) },
-    ghost blank: { drop used gates.items ≡ replicate (vec_len gates - used) empty },
+    entries: Vec<T>,
+    ghost room: { used ≤ vec_len entries },
+    ghost few: { used ≤ MOST },
+    ghost rest: { drop used entries.items ≡ replicate (vec_len entries - used) T.blank },
 }
 
 // What the variables are set to, in their order.
-#[derive(Drop)]
-pub struct Play {
-    bound: Option<u64>,
-    // how many variables may be set; the others are not
-    set: usize,
-    values: Vec<Value>,
-    ghost room: { set ≤ vec_len values },
-    ghost unset: { drop set values.items ≡ replicate (vec_len values - set) Unknown },
-}
+pub type Play = Table<Value, VARIABLES>;
 
 // A work list of values by node: all unknown between calls.
-#[derive(Drop)]
-pub struct ValueList {
-    bound: Option<u64>,
-    values: Vec<Value>,
-    ghost zero: { values.items ≡ replicate (vec_len values) Unknown },
-}
+pub type ValueList = Table<Value, 0>;
 
 // Marks by node: they show the core while a slip is out.
-#[derive(Drop)]
-pub struct Marks {
-    bound: Option<u64>,
-    // how many nodes may be marked; the others are not
-    shown: usize,
-    marks: Vec<bool>,
-    ghost room: { shown ≤ vec_len marks },
-    ghost clear: { drop shown marks.items ≡ replicate (vec_len marks - shown) false },
-}
+pub type Marks = Table<bool, NODES>;
 
 // A work list of copies by node, in both polarities: none between calls.
+pub type CopyList = Table<Copies, 0>;
+
+// The gates of a question and those that settlements make.
 #[derive(Drop)]
-pub struct CopyList {
-    bound: Option<u64>,
-    copies: Vec<Copies>,
-    ghost zero: { copies.items ≡ replicate (vec_len copies) none },
+pub struct GateTable {
+    // the node of the first gate
+    first: usize,
+    table: Table<Gate, GATES>,
+    ghost short: { vec_len table.entries ≤ 8000 },
+    ghost some: { 1 ≤ first },
+    ghost low: { first ≤ 129 },
+    ghost ascending: { Ascending first (take table.used (pairs table.entries.items)) },
 }
 
 // The caller's tables besides the gates.
@@ -117,11 +107,10 @@ pub struct Slip {
     stub: Stub,
 }
 
-// What close takes: the present paper, or nothing after a verdict.
+// The present paper. After a verdict there is none.
 pub enum Paper {
     Ticket(Ticket),
     Slip(Slip),
-    Nothing,
 }
 
 // A bench that was opened, with its ticket and the question's gates as a table of their own.
@@ -160,6 +149,6 @@ pub struct Closed<S> {
 pub struct Unclosed<S> {
     pub refusal: Refusal,
     pub bench: Bench<S>,
-    pub paper: Paper,
+    pub paper: Option<Paper>,
     pub gates: GateTable,
 }

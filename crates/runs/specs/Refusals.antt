@@ -2,6 +2,7 @@
 use Rattle.std.specs.Prelude.{ℕ, Some, None, Ok, Err, Option, Result}
 use Rattle.runs.specs.declared.Refusal.{Refusal}
 use Rattle.runs.specs.declared.Refusal.TheVariants.{Short, Spent, Foreign, Grants, Full}
+use Rattle.runs.specs.declared.Refused.{Refused}
 
 abbrev pub number_of : Refusal → ℕ
 number_of Short = 9
@@ -16,8 +17,8 @@ unless (Some why) x y = x
 unless None x y = y
 
 -- the answer of a call, with what is given back where it is refused
-abbrev pub answered : {X Y : Type 0} → Option Refusal → Y → X → Result X (Refusal × Y)
-answered (Some why) y x = Err (why, y)
+abbrev pub answered : {X Y : Type 0} → Option Refusal → Y → X → Result X (Refused Y)
+answered (Some why) y x = Err (record { refusal = why; paper = y })
 answered None y x = Ok x
 
 -- the answer of a call that says nothing more

@@ -25,7 +25,7 @@ pub struct Desk {
     pub depth: usize,
     // how many gates are in use
     pub gates: usize,
-    // the root of each level; entry 0 is of no level
+    // the root of each level; entry 0 is of no level. An array, since a desk is copied and asks for no memory.
     pub roots: [Literal; 18],
     // accepted turns
     pub turns: u64,
@@ -61,19 +61,19 @@ pub struct Verdict {
     pub opening: Option<Place>,
 }
 
-// Why a call is refused.
+// Why a call is refused, and the number that a program reports.
 #[derive(Clone, Copy, PartialEq, Eq, Debug)]
 pub enum Refusal {
     // at open: a work list or the play has too few entries
-    Short,
+    Short = 9,
     // at turn: the purse does not cover the need
-    Spent,
+    Spent = 10,
     // not the present paper, or not the bench's own tables
-    Foreign,
+    Foreign = 11,
     // at top-up: the sum of grants would pass 2^64 - 1
-    Grants,
+    Grants = 12,
     // at settle: the gates exceed the free entries
-    Full,
+    Full = 13,
 }
 
 impl Refusal {
@@ -81,50 +81,40 @@ impl Refusal {
     pub fn number(self) -> u8
         ensures { result ≡ number_of self }
     {
-        match self {
-            Refusal::Short => 9,
-            Refusal::Spent => 10,
-            Refusal::Foreign => 11,
-            Refusal::Grants => 12,
-            Refusal::Full => 13,
-        }
+        self as u8
     }
 }
 
-// Every run with right replies is sound.
-pub fn fair_runs() -> u8
-    ensures { FairRuns }
-{
-    0
+// A refused call on a paper, which is given back.
+pub struct Refused<P> {
+    pub refusal: Refusal,
+    pub paper: P,
 }
+
+// Every run with right replies is sound.
+pub fn fair_runs()
+    ensures { FairRuns }
+{}
 
 // Two runs on one question whose replies agree on equal queries go alike: their accepted turns leave equal plays and gates, and their verdicts
 // are equal.
-pub fn agreeing_runs() -> u8
+pub fn agreeing_runs()
     ensures { AgreeingRuns }
-{
-    0
-}
+{}
 
 // The law over runs: on two benches that were opened on one question, each over any searcher that keeps its meaning, every run is sound, and with
 // equal meanings the runs go alike.
-pub fn run_law() -> u8
+pub fn run_law()
     ensures { RunLaw }
-{
-    0
-}
+{}
 
 // The premises of the law are met on every question, over every meaning that is kept: by a run that is told by it, with a turn that is accepted and
 // calls that are refused.
-pub fn premises_met() -> u8
+pub fn premises_met()
     ensures { PremisesMet }
-{
-    0
-}
+{}
 
 // With the grants of the bound a run goes to the verdict, unless the gate table is full before.
-pub fn runs_end() -> u8
+pub fn runs_end()
     ensures { RunsEnd }
-{
-    0
-}
+{}

@@ -1,39 +1,28 @@
-use Rattle.std.proofs.Common.{◌≡◌, ℕ, ◌+◌, ◌-◌, min, List, length, take, sym, refl, ap, ◌∙◌, inl, inr, add-one, arith}
-use Rattle.std.proofs.lemmas.List.{take_all}
-use Rattle.std.proofs.lemmas.Bool.{cases_lt}
+use Rattle.std.proofs.Common.{◌≡◌, ◌+◌, ◌∙◌, List, [], ◌∷◌, take, sum_by, refl, ap, rules, tests, arith}
+use Rattle.std.proofs.lemmas.Iterator.{YieldsList-from_slice, YieldsList-from_take, YieldsList-from_map}
+use Rattle.std.proofs.lemmas.Iterator.Consumers.{YieldsList-at, sum_by_from_yields_List, fits_by_from_yields_list}
+use Rattle.std.proofs.lemmas.List.Sums.{sum_by-cons}
 use Rattle.question.specs.declared.prefix.Block.{Block}
-use Rattle.question.specs.Blocks.{block_at, total}
-use Rattle.question.proofs.Totals.{total_take_more, total_take_le}
+use Rattle.question.specs.Blocks.{total}
+use Rattle.question.proofs.Totals.{total_take_le}
 use Rattle.asking.proofs.before.Goals as goal
 
--- one block more of the first k
-more : (bs : List Block) (i : ℕ) → total (take (i + 1) bs) ≡ total (take i bs) + (block_at bs i).size
-more bs i = ap (λ k. total (take k bs)) (add-one i) ∙ total_take_more bs i
-
--- no more than there are
-capped : (bs : List Block) (d m : ℕ) → m ≡ min d (length bs) → take m bs ≡ take d bs
-capped bs d m e =
-    elim (cases_lt d (length bs)) [
-      | inl low ↦ ap (λ k. take k bs) (let s : m ≡ d = omega arith in s)
-      | inr high ↦ take_all m bs (omega arith) ∙ sym (take_all d bs high)
-    ]
-
-pub loop-block-init : goal.loop-block-init
+-- blocks have as many variables as their sizes add up to
+sizes : (bs : List Block) → sum_by (λ (b : Block). b.size) bs ≡ total bs
 unfolding total
-loop-block-init c = refl
+sizes [] = refl
+sizes (b ∷ bs) = sum_by-cons (λ (b : Block). b.size) b bs ∙ ap (λ n. b.size + n) (sizes bs)
 
-pub overflow_add-sum : goal.overflow_add-sum
-overflow_add-sum c =
-    let xs = take (c.min.result - 0) c.args.blocks.now in
-    omega (arith, c.loop-block.invariant, sym (more xs c.loop-block.block-index), total_take_le xs (c.loop-block.block-index + 1), total_take_le c.args.blocks.now (c.min.result - 0), c.requires)
-
-pub loop-block-preserved : goal.loop-block-preserved
-loop-block-preserved c =
-    let xs = take (c.min.result - 0) c.args.blocks.now in
-    ap (λ n. n + (block_at xs c.loop-block.block-index).size) c.loop-block.invariant ∙ sym (more xs c.loop-block.block-index)
+pub sum-requires-clause-fits : goal.sum-requires-clause-fits
+sum-requires-clause-fits c =
+    let bs = c.args.blocks.now in
+    fits_by_from_yields_list (λ (b : Block). b.size) (take c.args.depth bs) _ _
+    (YieldsList-from_map _ (λ (b : Block). b.size) (YieldsList-at c.map.ensures.source (YieldsList-from_take c.args.depth (YieldsList-at c.take.ensures.source (YieldsList-from_slice bs cc)) (cc))) c.map.ensures.closure (λ x r q k. search (rules, tests)))
+    (omega (arith, sizes (take c.args.depth bs), total_take_le bs c.args.depth, c.requires))
 
 pub returns : goal.returns
 returns c =
     let bs = c.args.blocks.now in
-    c.loop-block.invariant ∙ ap total (take_all c.loop-block.block-index (take (c.min.result - 0) bs) c.loop-block-test.false) ∙ ap (λ k. total (take k bs)) (let e : c.min.result - 0 ≡ c.min.result = omega arith in e)
-    ∙ ap total (capped bs c.args.depth c.min.result c.min.ensures)
+    sum_by_from_yields_List (λ (b : Block). b.size) (take c.args.depth bs) _ _ c.sum.ensures.ran
+    (YieldsList-from_map _ (λ (b : Block). b.size) (YieldsList-at c.map.ensures.source (YieldsList-from_take c.args.depth (YieldsList-at c.take.ensures.source (YieldsList-from_slice bs cc)) (cc))) c.map.ensures.closure (λ x r q k. search (rules, tests)))
+    ∙ sizes (take c.args.depth bs)

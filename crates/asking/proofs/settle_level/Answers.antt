@@ -1,60 +1,47 @@
-use Rattle.std.proofs.Common.{◌≡◌, ◌+◌, ◌-◌, List, length, take, drop, replicate, sym, refl, ap, ◌∙◌, subst, arith}
-use Rattle.std.proofs.lemmas.List.{length-take-le, take-map, take_at}
+use Rattle.std.proofs.Common.{◌≡◌, ◌+◌, List, length, take, replicate, sym, refl, ap, ◌∙◌, subst, arith}
+use Rattle.std.proofs.lemmas.List.{length-take-le, take-map, take_all}
 use Rattle.valuation.specs.declared.Value.TheVariants.{Unknown}
 use Rattle.valuation.specs.Circuit.{Pair, Ascending}
 use Rattle.circuit.specs.Gates.{pair, pairs}
 use Rattle.copying.specs.Gates.{part_in}
 use Rattle.copying.specs.Places.{none}
 use Rattle.runs.specs.Turn.{values_under}
-use Rattle.asking.proofs.Fronts.{front_zero, filled_front}
+use Rattle.asking.proofs.Fronts.{front_zero, zero_front}
 use Rattle.asking.proofs.Settles.{answer_by, table_by}
 use Rattle.asking.proofs.settle_level.Goals as goal
 
-pub work_out-requires : goal.work_out-requires
-work_out-requires c =
-    let used = c.args.used in
-    let n = c.args.first + used in
-    let old : pairs (take (used - 0) c.args.gates.now) ≡ take used (pairs c.args.gates.now) = ap (λ k. pairs (take k c.args.gates.now)) (let e : used - 0 ≡ used = omega arith in e) ∙ sym (take-map pair used c.args.gates.now) in
-    let long = length-take-le (used - 0) c.args.gates.now (omega (arith, c.requires.used)) in
+pub invariant_of-circuit : goal.invariant_of-circuit
+invariant_of-circuit c =
     record {
-      ascending = subst (Ascending c.args.first) (sym old) c.requires.ascending;
-      unforced = front_zero Unknown n (n - 0) c.args.unforced.now c.requires.unforced (omega arith) ∙ ap (λ k. replicate k Unknown) (let e : n ≡ c.args.first + length (take (used - 0) c.args.gates.now) = omega (arith, long) in e);
-      values = length-take-le (n - 0) c.args.values.now (omega (arith, c.requires.values.long)) ∙ omega (arith, long);
+      ascending = subst (Ascending c.args.first) (take-map pair c.args.used c.args.gates.now) c.requires.ascending;
+      countable = omega (arith, length-take-le c.args.used c.args.gates.now (omega (arith, c.requires.used)), c.requires.small);
     }
 
-pub settle-settled-requires : goal.settle-settled-requires
-settle-settled-requires c =
+pub work_out-requires-clause-unforced : goal.work_out-requires-clause-unforced
+work_out-requires-clause-unforced c =
     let n = c.args.first + c.args.used in
-    let wide = length-take-le (n - 0) c.args.values.now (omega (arith, c.requires.values.long)) in
-    let vs = take_at c.work_out.new.values (drop (n - 0) c.args.values.now) (n - 0) (c.work_out.auto.values ∙ wide) in
-    record {
-      used = c.requires.used;
-      small = c.requires.small;
-      ascending = c.requires.ascending;
-      blank = c.requires.blank;
-      core = c.requires.core;
-      values = omega (arith, ap length vs, c.work_out.auto.values, wide);
-      below = c.requires.below;
-      played = c.requires.played;
-      work = c.requires.copies.long;
-      clear = front_zero none n n c.args.copies.now c.requires.copies refl;
-    }
+    let long = length-take-le c.args.used c.args.gates.now (omega (arith, c.requires.used)) in
+    front_zero Unknown n _ c.args.unforced.now c.requires.unforced (omega (arith, long)) ∙ ap (λ j. replicate j Unknown) (let e : n ≡ c.args.first + length (take c.args.used c.args.gates.now) = omega (arith, long) in e)
+
+pub settle-settled-requires-clause-clear : goal.settle-settled-requires-clause-clear
+settle-settled-requires-clause-clear c = front_zero none _ _ c.args.copies.now c.requires.copies refl
 
 pub returns : goal.returns
 returns c =
     let used = c.args.used in
     let n = c.args.first + used in
+    let k = c.nodes-nodes.result in
     let gs = pairs c.args.gates.now in
     let l = c.args.loss in
-    let wide = length-take-le (n - 0) c.args.values.now (omega (arith, c.requires.values.long)) in
-    let long = c.work_out.auto.values ∙ wide in
-    let old : pairs (take (used - 0) c.args.gates.now) ≡ take used gs = ap (λ k. pairs (take k c.args.gates.now)) (let e : used - 0 ≡ used = omega arith in e) ∙ sym (take-map pair used c.args.gates.now) in
-    let vs = take_at c.work_out.new.values _ (n - 0) long ∙ c.work_out.ensures ∙ ap (λ (xs : List Pair). values_under c.args.first xs l.play.now) old in
+    let count = length-take-le used c.args.gates.now (omega (arith, c.requires.used)) in
+    let long : length c.work_out.new.values ≡ n = c.work_out.auto.values ∙ length-take-le k c.args.values.now (omega (arith, count, c.requires.values.long)) ∙ omega (arith, count) in
+    let vs =
+    sym (take_all (c.args.first + length (take used c.args.gates.now)) c.work_out.new.values (omega (arith, long, count))) ∙ c.work_out.ensures.values
+    ∙ ap (λ (xs : List Pair). values_under c.args.first xs l.play.now) (sym (take-map pair used c.args.gates.now)) in
     let part = part_in l.bounds l.play.now in
     record {
       answer = c.settle-settled.ensures.answer ∙ ap (answer_by c.args.first gs used part l.core.now l.root.code) vs;
       table = c.settle-settled.ensures.table ∙ ap (table_by c.args.first gs used part l.core.now l.root.code) vs;
-      values = filled_front Unknown (n - 0) c.args.values.now c.work_out.new.values c.fill.new.self (record { long = omega (arith, c.requires.values.long); all = c.requires.values.all }) long
-          (c.fill.ensures.after (λ y h. h));
+      values = zero_front Unknown n k c.args.values.now c.fill.new.self c.requires.values (omega (arith, count)) (c.fill.ensures.after (λ y h. h) ∙ ap (λ j. replicate j Unknown) long);
       copies = c.settle-settled.ensures.work;
     }
