@@ -133,7 +133,7 @@ pub struct Loss<'a> {
 }
 
 // Settles a lost level on a gate table of which `used` entries are in use: its gates stand after them, or the table is as it was if they do
-// not fit. Work lists are zero before and after.
+// not fit. Work lists are zero before and after. No struct for the table, as at `copying::settle`.
 pub fn settle_level(
     gates: &mut [Gate],
     used: usize,

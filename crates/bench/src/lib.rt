@@ -36,6 +36,7 @@ const GATES: usize = 8000;
 const NODES: usize = 1 + VARIABLES + GATES;
 
 // A table of entries, of which at most MOST are in use. It is bound to the stamp of an open bench.
+// A count beside the entries, since the table keeps the size that its owner gave it, and clearing touches only what is in use.
 #[derive(Drop)]
 pub struct Table<T: Blank, const MOST: usize> {
     bound: Option<u64>,
