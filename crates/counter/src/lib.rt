@@ -30,6 +30,7 @@ fn group_count(free: usize) -> u64
 }
 
 // The cases of a group that count and are not refuted, as a word, by one walk over the values of all 64.
+// That the query is sound is asked here and below: it says that there is a play, and a ghost field has to be a proposition.
 fn open_cases(ask: Ask<'_>, forced: &[Value], free: usize, group: u64, values: &mut [Wide]) -> u64
     requires sound { Sound (asked ask forced.now free) }
     requires room { NODES ≤ length values.old }

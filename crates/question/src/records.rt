@@ -153,7 +153,8 @@ impl Beginning {
         2 * (1 + self.prefix.variables() + self.gates)
     }
 
-    // The block of a whole record in its place, or the first rule on its content that it breaks.
+    // The block of a whole record in its place, or the first rule on its content that it breaks. What `front` says, here and below, is of
+    // bytes and result together, so that no type could carry it.
     fn block(&self, rest: &[u8]) -> Result<Record, Refusal>
         requires named { kind_of (word rest.now 2) (word rest.now 0) ≡ Some kinds.Block }
         requires whole { 7 ≤ length rest.now }
