@@ -123,7 +123,8 @@ pub fn ask_level<S: Searcher>(
 }
 
 // A lost level: the marks of its core, the play below it, the bounds of its block and of the one below it, and the root to be replaced.
-// `copying::Lost` has the nodes' values beside these: whoever hands over a loss does not have them, since settling works them out.
+// `copying::Lost` has the nodes' values beside these, which settling works out. It has no loss as a part: every definition of a settlement would go
+// through it.
 #[derive(Clone, Copy)]
 pub struct Loss<'a> {
     pub core: &'a [bool],

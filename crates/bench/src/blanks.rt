@@ -10,6 +10,7 @@ use copying::places::Copies;
 use valuation::Value;
 
 // A type with an entry that holds nothing, which can be written over any other.
+// No `Default`: what is blank is for the tables to say, and a value or a gate has no default.
 pub trait Blank: Copy {
     ghost blank: { Self };
 

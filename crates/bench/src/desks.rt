@@ -18,7 +18,7 @@ impl<S> Bench<S> {
     }
 }
 
-// What the present paper carries.
+// What the present paper carries. A function and no `From`, since both types are of another crate.
 pub(super) fn stub(desk: &Desk) -> Stub
     ensures { result ≡ stub_of desk.now }
 {

@@ -16,6 +16,7 @@ use circuit::Gate;
 use copying::places::Copies;
 use question::{Frame, Question};
 use runs::{Desk, Refusal, Stub, Verdict};
+use search::{GATES, NODES, VARIABLES};
 use valuation::Value;
 
 pub mod blanks;
@@ -27,13 +28,6 @@ mod tables;
 #[cfg(test)]
 mod tests;
 mod turning;
-
-// The most variables, gates and nodes that there are.
-const VARIABLES: usize = 128;
-
-const GATES: usize = 8000;
-
-const NODES: usize = 1 + VARIABLES + GATES;
 
 // A table of entries, of which at most MOST are in use. It is bound to the stamp of an open bench.
 // A count beside the entries, since the table keeps the size that its owner gave it, and clearing touches only what is in use.
@@ -72,7 +66,8 @@ pub struct GateTable {
     ghost ascending: { Ascending first (take table.used (pairs table.entries.items)) },
 }
 
-// The caller's tables besides the gates.
+// The caller's tables besides the gates. No struct has both: the gates come with the question and go back to it.
+// Lists by node and no list of records by node: a searcher is lent some of them and not the others.
 #[derive(Drop)]
 pub struct Lists {
     pub play: Play,

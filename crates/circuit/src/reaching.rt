@@ -48,6 +48,7 @@ pub fn force_marked(values: &[Value], marks: &mut [bool], forced: &mut [Value])
     ensures forced { forced.new ≡ map (where_marked marks.old (reads values.now)) (range_with_len 0 (length marks.old)) }
     ensures clear { marks.new ≡ replicate (length marks.old) false }
 {
+    // An index into the two lists that are read, since a proof has no name for a list that is written through a `zip` of `iter_mut`.
     for (node, entry) in forced.iter_mut().enumerate() {
         *entry = if marks[node] && node > 0 {
             values[node]

@@ -96,6 +96,7 @@ fn gate_value<K: Kind>(values: &[K], gate: Gate, forced: Value) -> K
     }
 }
 
+// Each call asks that its lists are long enough, and that a literal is of a node: the lists are the callers', and serve many circuits.
 impl Circuit<'_> {
     // Writes the value of each gate to its node.
     pub fn walk<K: Kind>(self, forced: &[Value], values: &mut [K])

@@ -132,8 +132,9 @@ fn need(copies: &mut [Copies], place: Literal)
     put_copy(copies, place, plain(place));
 }
 
-// Needs the core's literals in negative polarity. A bound on the list is asked here and below, since no type of a lent list could carry it.
-// A loop of its own beside that of the joins: those may fail at any literal, and this may not.
+// Needs the core's literals in negative polarity.
+// How long the lists are is asked here and below: a type that says it would be made and taken apart in one function, `settle`.
+// A walk of its own beside that of the joins: an iterator for both would want laws on what it gives, for two lines each.
 pub(super) fn need_core(core: &[bool], values: &[Value], copies: &mut [Copies])
     requires core { length copies.old ≤ length core.now }
     requires values { length copies.old ≤ length values.now }

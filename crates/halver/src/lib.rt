@@ -106,7 +106,7 @@ impl<S: Searcher> Searcher for Halver<S> {
 
     ghost keeps = { λ s. halves_keep (S.Searcher.meaning s.below) (S.Searcher.keeps s.below) };
 
-    // With the first variable forced false, and only after no move with it forced true.
+    // Asks the one below with the first variable forced false, and only after no move with it forced true; an empty range is passed on.
     fn query(
         &mut self,
         ask: Ask<'_>,

@@ -29,11 +29,11 @@ where
     Ok(text.parse::<T>()?)
 }
 
+// Functions here and below, since neither the traits of conversions nor what is read are of this crate.
 fn literal(text: &str) -> anyhow::Result<Literal> {
     Ok(Literal::new(parsed::<u16>(text)?))
 }
 
-// A function, since neither `TryFrom` nor `Value` is of this crate.
 fn value_of(digit: u8) -> Option<Value> {
     match digit {
         b'0' => Some(Value::Unknown),
@@ -199,7 +199,7 @@ fn line_agrees(heap: Global, all: &mut Searchers, line: &str) -> anyhow::Result<
     let _ = fields.next();
     let name = text(&mut fields)?;
     let case = case_of(heap, fields)?;
-    // A match, since the searchers are of five types, and none may be handed out as a `dyn`.
+    // A match: a searcher is picked by its name here, whether the five types or a `dyn` go further.
     match name {
         "splitter" => agrees(heap, &mut all.splitter, &case),
         "counter" => agrees(heap, &mut all.counter, &case),

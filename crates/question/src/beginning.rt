@@ -6,7 +6,7 @@ ghost use Rattle.question.specs.Rules.{blocks_of};
 use super::prefix::{Block, Prefix};
 
 // The blocks that were read, and how many gates.
-// No part of a `Frame`: what a frame says of these two holds only once the output is read.
+// A frame has these two fields of its own: with this one in their place every clause on a frame would go through it.
 #[derive(Clone, Copy)]
 pub struct Beginning {
     pub(super) prefix: Prefix,

@@ -77,7 +77,7 @@ pub enum Refusal {
 }
 
 impl Refusal {
-    // The number that a program reports.
+    // The number that a program reports. A method and no `From`, so that a call says which number it is.
     pub fn number(self) -> u8
         ensures { result ≡ number_of self }
     {

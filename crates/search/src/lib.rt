@@ -14,10 +14,17 @@ ghost use Rattle.search.specs.Examples.{BothOutcomes};
 use circuit::{Circuit, Gate, Literal};
 use valuation::Value;
 
-// The most nodes of a circuit: the constant, 128 variables and 8,000 gates. A searcher has memory for as many.
-pub const NODES: usize = 1 + 128 + 8000;
+// The most variables and gates of a circuit.
+pub const VARIABLES: usize = 128;
+
+pub const GATES: usize = 8000;
+
+// The most nodes of a circuit, with the constant. A searcher has memory for as many: each states this one law of its lists by itself, and a
+// type around such a list would say no more.
+pub const NODES: usize = 1 + VARIABLES + GATES;
 
 // A query, but for the lists that a searcher may write: is there a setting of the range under which the root is not false?
+// Gates and no `Circuit`, so that a query that is not sound can be made, and tested.
 #[derive(Clone, Copy)]
 pub struct Ask<'a> {
     // how many variables the circuit has
@@ -49,7 +56,7 @@ impl<'a> Ask<'a> {
 
 // What a searcher answers: a move or no move, with the steps that it needed, or that the allowance does not suffice. The setting of a move
 // stands in the range, the core of a no move in the marks.
-// Three answers and no `Result`: spent is no error to pass on, and every caller tells the three apart.
+// Three answers and no `Result` for spent: a caller passes on a move as early as spent, by one test, which `?` would make two.
 #[derive(Clone, Copy, PartialEq, Eq, Debug)]
 pub enum Reply {
     Move(u64),

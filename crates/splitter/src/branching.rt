@@ -25,7 +25,7 @@ fn write_setting(settings: &[Value], range: &mut [Value])
     }
 }
 
-// Writes the values of the inputs where the range is unset.
+// Writes the values of all inputs, as they are with the range unset.
 fn unset_range(ask: Ask<'_>, forced: &[Value], values: &mut [Value])
     requires covered { 1 + ask.variables ≤ length forced.now }
     requires room { 1 + ask.variables ≤ length values.old }

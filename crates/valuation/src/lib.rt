@@ -9,7 +9,7 @@ ghost use Rattle.valuation.specs.Claims.{AppendingKeeps, StoppingKeeps, SweepExa
 ghost use Rattle.valuation.specs.Claims.{CutExact, CutRight, CutSound};
 
 // A value of a node, or an entry of a play: unknown or unset (0), false (1), true (2).
-// An enum and no `Option<bool>`, so that code and definitions name the three alike.
+// An enum and no `Option<bool>`: the rules of gates go by three names, and would go by `None`, `Some(false)` and `Some(true)`.
 #[derive(Clone, Copy, PartialEq, Eq, Debug)]
 pub enum Value {
     Unknown,
