@@ -1,5 +1,5 @@
 -- Reads of a list of meanings, and the steps of a walk: xs has values of any kind, f is what one of them means in some case.
-use Rattle.std.proofs.Common.{◌≡◌, ℕ, ◌+◌, ◌/◌, ◌<◌, ◌≤◌, Bool, List, [], ◌∷◌, ◌++◌, map, length, get_or, take, drop, set, sym, ap, ◌∙◌, ap₂, arith}
+use Rattle.std.proofs.Common.{◌≡◌, ℕ, ◌+◌, ◌/◌, ◌<◌, ◌≤◌, List, [], ◌∷◌, ◌++◌, map, length, get_or, take, drop, set, sym, ap, ◌∙◌, ap₂, arith}
 use Rattle.std.proofs.lemmas.List.{get_or-map, length-map, length-take-le, take_more_set, map_push, get_or-take, take_all, take-take, take-map, at_drop_more, at_drop_all}
 use Rattle.std.specs.List.{range_with_len}
 use Rattle.std.proofs.lemmas.List.FromFn.{map-range_with_len_more}
@@ -21,9 +21,6 @@ module _ {X : Type 0} (f : X → Value) where
 
   pub filled_all : (g : ℕ → Value) (xs : List X) (k n : ℕ) → length xs ≤ k → n ≡ k → map f (take k xs) ≡ map g (range_with_len 0 k) → map f xs ≡ map g (range_with_len 0 n)
   filled_all g xs k n done e before = sym (ap (map f) (take_all k xs done)) ∙ before ∙ ap (λ m. map g (range_with_len 0 m)) (sym e)
-
-  pub literal_means : (xs : List X) (l n : ℕ) (x : X) (neg : Bool) → n ≡ l / 2 → n < length xs → x ≡ get_or xs n x → neg ≡ negated l → signed neg (f x) ≡ lit (reads (map f xs)) l
-  literal_means xs l n x neg e within read s = ap₂ signed s (sym (read_means xs n x within read) ∙ ap (reads (map f xs)) e)
 
   module _ (gs : List Pair) (F : Values) (xs : List X) (first k : ℕ) (goal : List Value) where
     -- one gate more

@@ -25,12 +25,6 @@ loop-done-init c =
     blaming_ready k.first (pairs k.gates.now) F v root k.ascending c.requires.input (omega arith) _ _ _ _ _ (omega arith)
     (blaming_same k.first (pairs k.gates.now) F v root refl one (blaming_start k.first (pairs k.gates.now) F v root c.args.marks.now))
 
-pub bounds-forced-node : goal.bounds-forced-node
-bounds-forced-node c =
-    let s = c.loop-done.self in
-    let less : c.loop-done.done < length s.order.items = omega (arith, s.order.ok.0) in
-    omega (arith, read_is s.order.items c.loop-done.done c.index-node.result.now less c.index-node.ensures, c.loop-done.invariant.0 less)
-
 pub pass_on-requires : goal.pass_on-requires
 pass_on-requires c =
     let k = c.args.circuit in
