@@ -59,6 +59,8 @@ pub fn settle(
     requires blank { BlankFrom (pairs gates.old) used }
     requires core { first + used ≤ length lost.core.now }
     requires values { first + used ≤ length lost.values.now }
+    requires below { 1 ≤ lost.bounds.below }
+    requires played { lost.bounds.mine ≤ length lost.play.now + 1 }
     requires work { first + used ≤ length copies.old }
     requires clear { take (first + used) copies.old ≡ replicate (first + used) none }
     ensures answer { result ≡ answer first (pairs gates.old) used lost.entry }

@@ -45,6 +45,8 @@ impl Making<'_> {
 
 // The copy of an input at a place: a variable of the lost level is 1 in positive polarity and 0 in negative, one of the level below its play.
 fn input_copy(lost: Lost, place: Literal) -> Literal
+    requires below { 1 ≤ lost.bounds.below }
+    requires played { lost.bounds.mine ≤ length lost.play.now + 1 }
     ensures { result.code ≡ input_copy (part_in lost.entry.bounds lost.entry.play.now (place.code / 2)) place.code }
 {
     let node = place.node();
@@ -90,6 +92,8 @@ fn make_copies(making: &mut Making, lost: Lost, copies: &mut [Copies]) -> Result
     requires start { making.old.made ≡ 0 }
     requires ascending { Ascending making.old.first (olds making.old) }
     requires nodes { length copies.old ≡ making.old.first + making.old.used }
+    requires below { 1 ≤ lost.bounds.below }
+    requires played { lost.bounds.mine ≤ length lost.play.now + 1 }
     ensures { MatchResult result
         (λ _. AllCopied making.old making.new lost.entry.bounds lost.entry.play.now copies.old copies.new)
         (λ _. Stopped making.old making.new (length (all_made making.old lost.entry.bounds lost.entry.play.now copies.old).gates)) }
@@ -163,6 +167,8 @@ pub(super) fn make_gates(
     requires nodes { length copies.old ≡ making.old.first + making.old.used }
     requires core { length copies.old ≤ length lost.core.now }
     requires values { length copies.old ≤ length lost.values.now }
+    requires below { 1 ≤ lost.bounds.below }
+    requires played { lost.bounds.mine ≤ length lost.play.now + 1 }
     ensures { MatchResult result
         (λ l. AllMade making.old making.new lost.entry copies.old l)
         (λ _. Stopped making.old making.new (length (gates_of making.old lost.entry copies.old))) }
