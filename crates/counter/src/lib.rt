@@ -15,11 +15,13 @@ ghost use Rattle.counting.proofs.Kept.{counts_keep};
 use circuit::kinds::{Kind, Wide};
 use circuit::walking::set_inputs_by;
 use inputs::{cases_that_count, variable_in_group};
+use lowest::lowest_one;
 use search::{Ask, NODES, Reply, Searcher};
 use std::alloc::{AllocError, Global};
 use valuation::Value;
 
 mod inputs;
+mod lowest;
 
 // How many groups the cases of some variables have.
 fn group_count(free: usize) -> u64
@@ -62,11 +64,11 @@ fn first_in_group(
     requires room { NODES ≤ length values.old }
     ensures { result ≡ first_open (refutes (asked ask.entry forced.now free)) (64 * group) (group_size free) }
 {
-    let open = open_cases(ask, forced, free, group, values);
-    if open == 0 {
-        None
+    let place = lowest_one(open_cases(ask, forced, free, group, values));
+    if place < 64 {
+        Some(64 * group + place)
     } else {
-        Some(64 * group + u64::from(open.trailing_zeros()))
+        None
     }
 }
 

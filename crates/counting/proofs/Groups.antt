@@ -1,7 +1,5 @@
 -- Groups of 64 cases, tried one after the other.
-use Rattle.std.proofs.Common.{◌≡◌, ℕ, ◌+◌, ◌-◌, ◌*◌, ◌%◌, ◌^◌, ◌<◌, ◌≤◌, Bool, true, false, not, ◌&&◌, eqb, ltb, map, replicate, Some, None, Option, sym, ap, ◌∙◌, subst, inl, inr, arith}
-use Rattle.std.specs.Int.{w64, bit_at, trailing_zeros}
-use Rattle.std.proofs.lemmas.Nat.Bits.{bit_at-zero, bit_at-trailing_zeros}
+use Rattle.std.proofs.Common.{◌≡◌, ℕ, ◌+◌, ◌-◌, ◌*◌, ◌%◌, ◌^◌, ◌<◌, ◌≤◌, Bool, true, false, not, ◌&&◌, ltb, map, replicate, Some, None, Option, sym, ap, ◌∙◌, subst, inl, inr, arith}
 use Rattle.std.proofs.lemmas.Nat.{pow-add, pow_pos, pow_below, one_shl}
 use Rattle.std.proofs.lemmas.Bool.{cases_lt, and_cases, and_parts, ltb-true, lt-ltb, not-true, not-false, false≢true}
 use Rattle.valuation.specs.declared.Value.TheVariants.{Unknown}
@@ -11,7 +9,9 @@ use Rattle.search.specs.declared.Reply.TheVariants.{Move, NoMove, Spent}
 use Rattle.search.specs.Queries.{Query}
 use Rattle.search.specs.Answers.{Answered}
 use Rattle.search.proofs.Shown.{spent, enough}
+use Rattle.counting.specs.Lowest.{lowest}
 use Rattle.counting.specs.Counting.{setting, refutes, first_open, group_of, groups, group_size, core, counted, counts}
+use Rattle.counting.proofs.Lowest.{lowest_clear, lowest_here}
 use Rattle.counting.proofs.Cases.{Says, first_says, first_some, first_none}
 
 -- the open cases of a group as a word: those that count and are not refuted
@@ -23,23 +23,16 @@ module _ (refuted : ℕ → Bool) (g f word : ℕ) (bits : (c : ℕ) → c < 64 
         | inr n ↦ ap refuted e ∙ not-false (refuted (64 * g + c)) n
       ]
 
-  clear : (c : ℕ) → bit_at word c ≡ 0 → on word c ≡ false
-  clear c = ap (λ n. eqb n 1)
-
-  pub open_some : 0 < word → word < 2 ^ 64 → Some (64 * g + trailing_zeros w64 word) ≡ first_open refuted (64 * g) (group_size f)
-  open_some some fits =
-      let place = trailing_zeros w64 word in
-      let t = bit_at-trailing_zeros w64 word some fits in
-      let h : place < 64 = t.0 in
-      let p = and_parts (ltb place (2 ^ f)) (not (refuted (64 * g + place))) (sym (bits place h) ∙ ap (λ n. eqb n 1) t.1) in
+  pub open_some : (place : ℕ) → place ≡ lowest 64 word → place < 64 → Some (64 * g + place) ≡ first_open refuted (64 * g) (group_size f)
+  open_some place is h =
+      let p = and_parts (ltb place (2 ^ f)) (not (refuted (64 * g + place))) (sym (bits place h) ∙ ap (on word) is ∙ lowest_here 64 word (omega arith)) in
       let l = ltb-true place (2 ^ f) p.0 in
       sym (first_some refuted (64 * g) (group_size f) (64 * g + place) (omega arith) (omega arith)
-      (λ j a b. shut j (j - 64 * g) (omega arith) (omega arith) (omega arith) (clear (j - 64 * g) (t.2 (j - 64 * g) (omega arith)))) (not-true _ p.1))
+      (λ j a b. shut j (j - 64 * g) (omega arith) (omega arith) (omega arith) (lowest_clear 64 word (j - 64 * g) (omega arith))) (not-true _ p.1))
 
-  pub open_none : word ≡ 0 → None ≡ first_open refuted (64 * g) (group_size f)
-  open_none none =
-      sym (first_none refuted (64 * g) (group_size f)
-      (λ j a b. shut j (j - 64 * g) (omega arith) (omega arith) (omega arith) (clear (j - 64 * g) (ap (λ n. bit_at n (j - 64 * g)) none ∙ bit_at-zero (j - 64 * g)))))
+  pub open_none : (place : ℕ) → place ≡ lowest 64 word → 64 ≤ place → None ≡ first_open refuted (64 * g) (group_size f)
+  open_none place is h =
+      sym (first_none refuted (64 * g) (group_size f) (λ j a b. shut j (j - 64 * g) (omega arith) (omega arith) (omega arith) (lowest_clear 64 word (j - 64 * g) (omega arith))))
 
 -- whole groups, or a part of one
 groups_fit : (f g : ℕ) → g < groups f → 64 * g + group_size f ≤ 2 ^ f

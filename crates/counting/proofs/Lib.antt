@@ -1,4 +1,5 @@
 pub mod Digits
+pub mod Lowest
 pub mod Cases
 pub mod Kept
 pub mod Groups
