@@ -1,6 +1,6 @@
 // Blame: which forced nodes make the root false. It goes from the root down: a forced node is marked and not entered, a false gate passes
 // it to its left input if that is false, else to its right, and a true gate passes it to both.
-ghost use Rattle.std.specs.Prelude.{◌≡◌, ℕ, ◌+◌, ◌*◌, ◌/◌, ◌<◌, ◌≤◌, ◌≢◌, false, [], ◌∷◌, length, slice_index_or, vec_len, vec_capacity, IfOk};
+ghost use Rattle.std.specs.Prelude.{◌≡◌, ℕ, ◌+◌, ◌*◌, ◌/◌, ◌<◌, ◌≤◌, ◌≢◌, true, false, [], ◌∷◌, length, replicate, slice_index, slice_index_or, vec_len, vec_capacity, IfOk};
 ghost use Rattle.circuit.specs.Gates.{pair, pairs};
 ghost use Rattle.search.specs.declared.TheConstants.{NODES};
 ghost use Rattle.splitting.specs.Blame.{passes, core};
@@ -35,6 +35,17 @@ fn cause(gate: Gate, values: &[Value]) -> usize
     match literal_value(values, gate.left()) {
         Value::False => gate.left().node(),
         Value::Unknown | Value::True => gate.right().node(),
+    }
+}
+
+// Takes the flags of the listed nodes away.
+fn forget(noted: &[usize], seen: &mut [bool])
+    requires inside { (i : ℕ) → i < length noted.now → slice_index noted.now i < length seen.old }
+    requires listed { (n : ℕ) → slice_index_or seen.old n false ≡ true → (i : ℕ) × ((i < length noted.now) × (slice_index noted.now i ≡ n)) }
+    ensures { seen.new ≡ replicate (length seen.old) false }
+{
+    for node in noted {
+        seen[*node] = false;
     }
 }
 
@@ -81,9 +92,8 @@ impl Blame {
     fn clear(&mut self)
         ensures { self.new.order.items ≡ [] }
     {
-        while let Some(node) = self.order.pop() {
-            self.seen[node] = false;
-        }
+        forget(&self.order[..], &mut self.seen[..]);
+        self.order.clear();
     }
 
     // Marks the forced nodes that are blamed for the root's value. The list is empty before and after.

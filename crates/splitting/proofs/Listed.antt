@@ -1,9 +1,9 @@
--- A worklist's flags and its list, as a place is noted and as the last one is taken back.
+-- A worklist's flags and its list, as a place is noted and as the flags are taken away.
 use Rattle.std.proofs.Common.{◌≡◌, ℕ, zero, suc, ◌+◌, ◌-◌, ◌<◌, ◌≤◌, Bool, true, false, ◌||◌, eqb, ◌≢◌, List, [], ◌∷◌, ◌++◌, length, get_or, set, replicate, sym, refl, ap, ◌∙◌, inl, inr, arith}
-use Rattle.std.proofs.lemmas.List.{get_or-set_same, get_or-set_other, get_or_append_left, get_or-append_right, get_or_past, length-append, length-set}
-use Rattle.std.proofs.lemmas.Bool.{cases_eq, cases_lt, eq-eqb, ne_eqb, or_right, false_from_ne_true, true≢false}
+use Rattle.std.proofs.lemmas.List.{ext_get_or, get_or-set_same, get_or-set_other, get_or_append_left, get_or-append_right, get_or_past, get_or-replicate, length-append, length-set, length-replicate}
+use Rattle.std.proofs.lemmas.Bool.{cases_eq, cases_lt, cases_Bool, eq-eqb, ne_eqb, or_right, true≢false}
 use Rattle.splitting.specs.Worklist.{holds, flag_count}
-use Rattle.splitting.proofs.Working.{holds_at, place_of, holds_end}
+use Rattle.splitting.proofs.Working.{on, holds_at, holds_end}
 
 pub flag_count_le : (ms : List Bool) → flag_count ms ≤ length ms
 flag_count_le [] = omega arith
@@ -20,16 +20,11 @@ none_set zero k = refl
 none_set (suc n) zero = refl
 none_set (suc n) (suc k) = none_set n k
 
--- one more, and one less
+-- one more
 pub flag_count_set : (ms : List Bool) (n : ℕ) → n < length ms → get_or ms n false ≡ false → flag_count (set ms n true) ≡ flag_count ms + 1
 flag_count_set [] n h e = absurd (omega arith)
 flag_count_set (b ∷ ms) zero h e = rw e (omega arith)
 flag_count_set (b ∷ ms) (suc n) h e = omega (arith, flag_count_set ms n (omega arith) e)
-
-pub flag_count_unset : (ms : List Bool) (n : ℕ) → get_or ms n false ≡ true → flag_count (set ms n false) + 1 ≡ flag_count ms
-flag_count_unset [] n e = absurd (true≢false (sym e))
-flag_count_unset (b ∷ ms) zero e = rw e (omega arith)
-flag_count_unset (b ∷ ms) (suc n) e = omega (arith, flag_count_unset ms n e)
 
 -- each place stands once
 abbrev pub Once : List ℕ → Type 0
@@ -60,38 +55,31 @@ module _ (seen : List Bool) (order : List ℕ) (node : ℕ) (listed : (n : ℕ) 
           | inr k ↦ true≢false (sym (holds_at order i (omega arith)) ∙ ap (holds order) (sym low ∙ e ∙ end_is order node j (omega arith)) ∙ sym (listed node) ∙ new)
         ]
 
-  module _ (rest : List ℕ) (is : order ≡ rest ++ (node ∷ [])) (once : Once order) where
-    pub once_less : Once rest
-    once_less i j h l e =
-        let long = length-append rest (node ∷ []) in
-        once i j h (omega (arith, ap length is))
-        (ap (λ xs. get_or xs i 0) is ∙ get_or_append_left rest (node ∷ []) 0 i (omega arith) ∙ e ∙ sym (ap (λ xs. get_or xs j 0) is ∙ get_or_append_left rest (node ∷ []) 0 j l))
+-- what is still seen stands in the list, from place i on
+abbrev pub Left : List Bool → List ℕ → ℕ → ℕ → Type 0
+Left seen order count i = (n : ℕ) → on seen n → (k : ℕ) × ((i ≤ k) × (k < count) × (get_or order k 0 ≡ n))
 
-    gone : holds rest node ≡ false
-    gone =
-        false_from_ne_true (holds rest node)
-        (λ h. let p = place_of rest node h in
-        let long = length-append rest (node ∷ []) in
-        once p.0 (length rest) p.1.0 (omega (arith, ap length is))
-        (ap (λ xs. get_or xs p.0 0) is ∙ get_or_append_left rest (node ∷ []) 0 p.0 p.1.0 ∙ p.1.1 ∙ sym (ap (λ xs. get_or xs (length rest) 0) is ∙ end_is rest node (length rest) refl)))
-
-    pub last_seen : get_or seen node false ≡ true
-    last_seen = listed node ∙ ap (λ xs. holds xs node) is ∙ holds_end rest node node ∙ or_right (holds rest node) (eqb node node) (eq-eqb node node refl)
-
-    pub listed_less : (n : ℕ) → get_or (set seen node false) n false ≡ holds rest n
-    listed_less n =
-        elim (cases_eq n node) [
-          | inl e ↦ rw e (cleared ∙ sym gone)
-          | inr e ↦ get_or-set_other seen node n false false e ∙ listed n ∙ ap (λ xs. holds xs n) is ∙ holds_end rest node n ∙ ap (λ b. holds rest n || b) (ne_eqb node n (λ z. e (sym z))) ∙ no_more (holds rest n)
+pub left_more : (seen : List Bool) (order : List ℕ) (count i : ℕ) → Left seen order count i → Left (set seen (get_or order i 0) false) order count (i + 1)
+left_more seen order count i left n o =
+    elim (cases_eq n (get_or order i 0)) [
+      | inl e ↦ absurd (cleared e)
+      | inr e ↦
+          let k = left n (sym (get_or-set_other seen (get_or order i 0) n false false e) ∙ o) in
+          let later : i ≢ k.0 = λ s. e (sym k.1.2 ∙ ap (λ m. get_or order m 0) (sym s)) in
+          (k.0, (omega (arith, k.1.0), k.1.1, k.1.2))
+    ]
+  where
+    cleared : n ≡ get_or order i 0 → ⊥
+    cleared e =
+        elim (cases_lt n (length seen)) [
+          | inl h ↦ true≢false (sym o ∙ rw e (get_or-set_same seen (get_or order i 0) false false (omega arith)))
+          | inr h ↦ true≢false (sym o ∙ get_or_past (set seen (get_or order i 0) false) n false (omega (arith, length-set seen (get_or order i 0) false)))
         ]
-      where
-        no_more : (b : Bool) → (b || false) ≡ b
-        no_more true = refl
-        no_more false = refl
 
-        cleared : get_or (set seen node false) node false ≡ false
-        cleared =
-            elim (cases_lt node (length seen)) [
-              | inl h ↦ get_or-set_same seen node false false h
-              | inr h ↦ get_or_past (set seen node false) node false (omega (arith, length-set seen node false))
-            ]
+pub left_none : (seen : List Bool) (order : List ℕ) (count i size : ℕ) → count ≤ i → length seen ≡ size → Left seen order count i → seen ≡ replicate size false
+left_none seen order count i size all long left =
+    ext_get_or false seen (replicate size false) (long ∙ sym (length-replicate size false))
+    (λ n h. elim (cases_Bool (get_or seen n false)) [
+      | inl o ↦ absurd (let k = left n o in omega (arith, k.1.0, k.1.1))
+      | inr o ↦ o ∙ sym (get_or-replicate size n false false (omega arith))
+    ])

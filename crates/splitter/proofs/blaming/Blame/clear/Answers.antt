@@ -1,24 +1,35 @@
-use Rattle.std.proofs.Common.{length, [], ◌∷◌, ap, arith}
-use Rattle.std.proofs.lemmas.List.{length-append}
+use Rattle.std.proofs.Common.{◌≡◌, ◌<◌, Bool, false, length, get_or, take, drop, replicate, List, [], ◌++◌, sym, ap, ◌∙◌, subst, arith, rules}
+use Rattle.std.proofs.lemmas.List.{take_at, length-replicate}
+use Rattle.search.specs.declared.TheConstants.{NODES}
 use Rattle.search.proofs.Marks.{on_inside}
-use Rattle.splitting.proofs.Listed.{flag_count_unset, last_seen, listed_less, once_less}
+use Rattle.splitting.specs.Worklist.{holds, flag_count}
+use Rattle.splitting.proofs.Working.{holds_at, place_of}
+use Rattle.splitting.proofs.Listed.{flag_count_none, none_set}
 use Rattle.splitter.proofs.blaming.Blame.clear.Goals as goal
 
-pub index_mut-requires : goal.index_mut-requires
-index_mut-requires c =
-    let s = c.loop-node.self in
-    omega (arith, s.seen.ok.0, on_inside s.seen.items c.in-Some.node (last_seen s.seen.items s.order.items c.in-Some.node s.listed c.pop.new.self.items c.in-Some.ensures.items s.once))
+pub forget-requires-clause-inside : goal.forget-requires-clause-inside
+forget-requires-clause-inside c = λ i h.
+    let s = c.args.self.now in
+    let less : i < length s.order.items = omega (arith, ap length c.deref.ensures.value) in
+    let set = on_inside s.seen.items (get_or s.order.items i 0) (s.listed (get_or s.order.items i 0) ∙ holds_at s.order.items i less) in
+    rw (c.deref.ensures.value, c.deref_mut.ensures.value) set
+
+pub forget-requires-clause-listed : goal.forget-requires-clause-listed
+forget-requires-clause-listed c = λ n o.
+    let s = c.args.self.now in
+    rw c.deref.ensures.value (place_of s.order.items n (sym (s.listed n) ∙ ap (λ (xs : List Bool). get_or xs n false) (sym c.deref_mut.ensures.value) ∙ o))
 
 pub invariant_of-self : goal.invariant_of-self
 invariant_of-self c =
-    let s = c.loop-node.self in
-    let node = c.in-Some.node in
-    let rest = c.pop.new.self.items in
-    let is = c.in-Some.ensures.items in
+    let s = c.args.self.now in
+    let empty = c.clear.ensures.items in
+    let none : c.forget.new.seen ≡ replicate NODES false = c.forget.ensures ∙ ap (λ n. replicate n false) (ap length c.deref_mut.ensures.value ∙ sym s.seen.ok.0 ∙ s.wide) in
+    let is : take s.seen.len (c.forget.new.seen ++ drop (length c.forget.new.seen) s.seen.items) ≡ replicate NODES false =
+    take_at c.forget.new.seen (drop (length c.forget.new.seen) s.seen.items) s.seen.len (ap length none ∙ length-replicate NODES false ∙ sym s.wide) ∙ none in
     record {
       wide = s.wide;
-      roomy = omega (arith, s.roomy, c.in-Some.ensures.capacity);
-      counted = omega (arith, ap length is, length-append rest (node ∷ []), flag_count_unset s.seen.items node (last_seen s.seen.items s.order.items node s.listed rest is s.once), s.counted);
-      listed = listed_less s.seen.items s.order.items node s.listed rest is s.once;
-      once = once_less s.seen.items s.order.items node s.listed rest is s.once;
+      roomy = omega (arith, s.roomy, c.clear.ensures.capacity);
+      counted = ap length empty ∙ sym (ap flag_count is ∙ flag_count_none NODES);
+      listed = λ n. ap (λ (xs : List Bool). get_or xs n false) is ∙ none_set NODES n ∙ sym (ap (λ xs. holds xs n) empty);
+      once = λ i j h l. absurd (omega (arith, ap length empty));
     }
