@@ -13,6 +13,7 @@ use splitter::Splitter;
 use std::alloc::{AllocError, Global};
 use std::error::Error;
 use std::io::{BufRead, BufReader};
+use std::num::ParseIntError;
 use std::str::{FromStr, Split};
 use valuation::Value;
 use vectors::compare;
@@ -66,9 +67,22 @@ fn force(nodes: &str, forced: &mut [Value]) -> anyhow::Result<()> {
     Ok(())
 }
 
-fn gate_of(field: &str) -> anyhow::Result<Gate> {
-    let (left, right) = field.split_once(',').context("no gate")?;
-    Ok(Gate::new(literal(left)?, literal(right)?))
+// Why a gate is not read. A small type, since a result with it is moved for each gate.
+#[derive(Debug, Drop, thiserror::Error)]
+enum Unread {
+    #[error("no gate")]
+    NoGate,
+    #[error(transparent)]
+    Number(#[from] ParseIntError),
+    #[error(transparent)]
+    Memory(#[from] AllocError),
+}
+
+fn gate_of(field: &str) -> Result<Gate, Unread> {
+    let (left, right) = field.split_once(',').ok_or(Unread::NoGate)?;
+    let left = Literal::new(left.parse::<u16>()?);
+    let right = Literal::new(right.parse::<u16>()?);
+    Ok(Gate::new(left, right))
 }
 
 // A stored query, and the answer to it.
