@@ -28,6 +28,12 @@ impl Question {
         ensures records { result.now ≡ gates_of self.now }
         ensures literals { pairs result.now ≡ (formula self.now).gates }
     {
+        self.records()
+    }
+
+    fn records(&self) -> &[Gate]
+        ensures { result.now ≡ gates_of self.now }
+    {
         &self.table[..self.frame.gates]
     }
 

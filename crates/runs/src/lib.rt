@@ -86,6 +86,7 @@ impl Refusal {
 }
 
 // A refused call on a paper, which is given back.
+#[derive(Drop)]
 pub struct Refused<P> {
     pub refusal: Refusal,
     pub paper: P,
