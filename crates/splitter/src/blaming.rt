@@ -38,7 +38,8 @@ fn cause(gate: Gate, values: &[Value]) -> usize
     }
 }
 
-// Takes the flags of the listed nodes away.
+// Takes the flags of the listed nodes away. Over the list and the flags, in one pass: node by node with its flag, the list's length would be
+// written and read in memory each time.
 fn forget(noted: &[usize], seen: &mut [bool])
     requires inside { (i : ℕ) → i < length noted.now → slice_index noted.now i < length seen.old }
     requires listed { (n : ℕ) → slice_index_or seen.old n false ≡ true → (i : ℕ) × ((i < length noted.now) × (slice_index noted.now i ≡ n)) }

@@ -1,4 +1,4 @@
-use Rattle.std.proofs.Common.{◌≡◌, ◌<◌, Bool, false, length, get_or, take, drop, replicate, List, [], ◌++◌, sym, ap, ◌∙◌, subst, arith, rules}
+use Rattle.std.proofs.Common.{◌≡◌, ◌<◌, Bool, false, length, get_or, take, drop, replicate, List, [], ◌++◌, sym, ap, ◌∙◌, arith}
 use Rattle.std.proofs.lemmas.List.{take_at, length-replicate}
 use Rattle.search.specs.declared.TheConstants.{NODES}
 use Rattle.search.proofs.Marks.{on_inside}
